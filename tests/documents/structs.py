@@ -20,7 +20,9 @@ from tests import TOP  # noqa: E402
 # How many bytes each type has where size_t has 8, and where it has 4.
 WIDTHS = {"uint32_t": (4, 4), "uint64_t": (8, 8), "size_t": (8, 4)}
 PLACE = os.path.join("docs", "STRUCTS.md")
-HEAD = """# The structs of faxpages.h
+HEAD = """<!-- Made by tests/documents/structs.py of include/faxpages.h: change that. -->
+
+# The structs of faxpages.h
 
 For who calls the library from another language: the place of each member in bytes, where a pointer has 64 bits and where it has 32, as in WebAssembly. Numbers are in the order of the machine. `tests/documents/structs.py` makes this page of the header, and compilers for C are asked whether it is so.
 

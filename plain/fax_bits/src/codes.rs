@@ -1,3 +1,4 @@
+// Made by tools/plain-rust of crates/fax_bits/src/codes.rt: change that.
 //! Code tables, and the code that bits begin with.
 
 use crate::BitSource;
@@ -36,6 +37,9 @@ pub trait CodeTable {
 
     /// The entry at a place below `COUNT`.
     // requires { i < COUNT }
+    // ensures found { slice_get table i ≡ Some result }
+    // ensures not_empty { 0 < result.len }
+    // ensures short { result.len ≤ LONGEST_CODE }
     fn entry(i: usize) -> CodeEntry<Self::Meaning>;
 
     /// The length in bits and the meaning of the code that begins `n` bits, 0 to 13 of them: the
@@ -43,6 +47,8 @@ pub trait CodeTable {
     /// table that has no quicker way goes through its entries.
     // requires few { n ≤ LONGEST_CODE }
     // requires fits { window < 2 ^ n }
+    // ensures { MatchOption result (HasNoCode table (code_bits n window))
+    //     (λ found. HasCodeAhead table (code_bits n window) found.0 found.1) }
     fn find(window: u32, n: u32) -> Option<(u32, Self::Meaning)> {
         for i in 0..Self::COUNT {
             let entry = Self::entry(i);
@@ -57,6 +63,8 @@ pub trait CodeTable {
 
 /// The length and the meaning of a code, where `n` bits are as many as it has.
 #[inline(always)]
+// ensures { MatchOption result (n < entry.len)
+//     (λ found. (entry.len ≤ n) × (found.0 ≡ entry.len) × (found.1 ≡ entry.meaning)) }
 pub(crate) fn within<M: Copy>(entry: CodeEntry<M>, n: u32) -> Option<(u32, M)> {
     let len = u32::from(entry.len);
     if len <= n {
@@ -72,6 +80,12 @@ pub(crate) fn within<M: Copy>(entry: CodeEntry<M>, n: u32) -> Option<(u32, M)> {
 ///
 /// `DataEnds` where the bits end within a code, `BadCode` where no code begins so. The source is
 /// then as it was.
+// ensures ok { IfOk result (λ meaning. Takes T.table source.old.left meaning source.new.left) }
+// ensures err { IfErr result (λ fault. IsFaultOf T.table source.old.left fault) }
+// ensures unchanged { OnErr result (source.new ≡ source.old) }
+// The source goes on in the same bits, and a code takes at least one of them.
+// ensures same_end { KeepsEnd source.old source.new }
+// ensures shorter { OnOk result (length source.new.left < length source.old.left) }
 pub fn read_code<T: CodeTable>(source: &mut BitSource) -> Result<T::Meaning, CodeFault> {
     // It looks at the next thirteen bits, or at all that are left: near the end of the bytes the
     // window loads single bytes, so that one function reads every code and names each fault. Each
@@ -93,6 +107,7 @@ pub fn read_code<T: CodeTable>(source: &mut BitSource) -> Result<T::Meaning, Cod
 #[inline(never)]
 // requires fits { window < 2 ^ n }
 // requires none { HasNoCode T.table (code_bits n window) }
+// ensures { IsFaultOf T.table (code_bits n window) result }
 fn fault_at_end<T: CodeTable>(window: u32, n: u32) -> CodeFault {
     for i in 0..T::COUNT {
         let entry = T::entry(i);

@@ -1,10 +1,10 @@
+// Made by tools/plain-rust of crates/fax_bits/src/lib.rt: change that.
 //! Bits of coded strips, read and written, and the code tables of ITU-T T.4.
 #![forbid(unsafe_code)]
 
 mod bit_reversal;
 mod codes;
 mod indexes;
-pub mod laws;
 mod look_up;
 mod mode_codes;
 mod pairs;

@@ -1,3 +1,4 @@
+// Made by tools/plain-rust of crates/fax_bits/src/look_up.rt: change that.
 //! What one look-up of the next bits finds: a run, a white run and the black one after it, a mode.
 
 use crate::codes::LONGEST_CODE;
@@ -19,6 +20,8 @@ const LOOKED_AT_FOR_RUNS: u32 = HORIZONTAL_LEN + LONGEST_CODE;
 /// The length of a run of the colour that begins thirty-two bits, of one make-up code at most, and
 /// how many pels it has. `None` says nothing of the bits.
 #[inline(always)]
+// ensures { IfSome result
+//     (λ found. IsBegun (IsOneRun colour) (code_bits LOOKED_AT bits) found.0 found.1) }
 fn find_whole_run(colour: Colour, bits: u32) -> Option<(u32, u32)> {
     let (first, code) = find_run_code(colour, bits >> AFTER_CODE)?;
     match code {
@@ -37,6 +40,8 @@ fn find_whole_run(colour: Colour, bits: u32) -> Option<(u32, u32)> {
 /// The code of horizontal mode and the pair whose terminating codes come after it, where they begin
 /// sixteen bits, and how many of these they take. `None` says nothing of the bits.
 #[inline(always)]
+// ensures { IfSome result (λ found.
+//     IsBegun IsHorizontalPair (code_bits LOOKED_AT_FOR_RUNS bits) found.0 found.1) }
 fn find_horizontal_pair(bits: u32) -> Option<(u32, Pair)> {
     if bits >> LONGEST_CODE != HORIZONTAL_CODE {
         return None;
@@ -51,6 +56,12 @@ impl<'a> BitSource<'a> {
     /// where that look-up has no such pair, the source is as it was.
     #[inline(always)]
     // requires { total < 2 ^ 31 }
+    // ensures runs { IfSome result (λ pair. IsPairRead self.old.left pair self.new.left) }
+    // ensures within { IfSome result (λ pair. total + pair.white + pair.black ≤ width) }
+    // ensures unchanged { result ≡ None → self.new ≡ self.old }
+    // The source goes on in the same bits.
+    // ensures same_end { KeepsEnd self.old self.new }
+    // ensures shorter { IsSome result → length self.new.left < length self.old.left }
     pub fn pair_within(&mut self, total: u32, width: u32) -> Option<Pair> {
         // A look-up for each run took nearly half of the time of a dithered page's one-dimensional
         // rows. To compare the sum with the width takes fewer steps than to compute what is left of
@@ -70,6 +81,13 @@ impl<'a> BitSource<'a> {
     /// it was.
     #[inline(always)]
     // requires { total < 2 ^ 31 }
+    // ensures read { IfSome result
+    //     (λ pair. IsHorizontalPairRead self.old.left pair self.new.left) }
+    // ensures within { IfSome result (λ pair. total + pair.white + pair.black ≤ width) }
+    // ensures unchanged { result ≡ None → self.new ≡ self.old }
+    // The source goes on in the same bits.
+    // ensures same_end { KeepsEnd self.old self.new }
+    // ensures shorter { IsSome result → length self.new.left < length self.old.left }
     pub fn horizontal_pair_within(&mut self, total: u32, width: u32) -> Option<Pair> {
         self.window = self
             .window
@@ -86,6 +104,14 @@ impl<'a> BitSource<'a> {
     /// Reads a run of the colour, of one make-up code at most and of at most so many pels (T.4,
     /// section 4.1.1). Where it has more, or is not found so, the source is as it was.
     #[inline(always)]
+    // ensures run { IfSome result (λ pels. IsRun colour self.old.left pels self.new.left) }
+    // ensures written { IfSome result
+    //     (λ pels. self.old.left ≡ run_bits colour pels ++ self.new.left) }
+    // ensures few { IfSome result (λ pels. pels ≤ most) }
+    // ensures unchanged { result ≡ None → self.new ≡ self.old }
+    // The source goes on in the same bits.
+    // ensures same_end { KeepsEnd self.old self.new }
+    // ensures shorter { IsSome result → length self.new.left < length self.old.left }
     pub fn run_within(&mut self, colour: Colour, most: u32) -> Option<u32> {
         // Each look-up is a few lines of its own: one generic function for all of them needed a
         // trait, and a type for each of what is looked up. Both codes of a run are found in
@@ -103,6 +129,11 @@ impl<'a> BitSource<'a> {
     /// with `SELDOM_VERTICAL` last, but for the one that a loaded bit tells. Where it finds none,
     /// the source is as it was.
     #[inline(always)]
+    // ensures takes { IfSome result (λ mode. Takes modes self.old.left mode self.new.left) }
+    // ensures unchanged { result ≡ None → self.new ≡ self.old }
+    // The source goes on in the same bits.
+    // ensures same_end { KeepsEnd self.old self.new }
+    // ensures shorter { IsSome result → length self.new.left < length self.old.left }
     pub fn mode<const SELDOM_VERTICAL: bool>(&mut self) -> Option<ModeCode> {
         // One loaded bit alone tells that a1 is under b1, as it is in most modes of a page. Where
         // no look-up finds the mode, as near the end of the bytes, the caller reads it by
@@ -122,6 +153,11 @@ impl<'a> BitSource<'a> {
     /// Reads vertical modes by one look-up: two to four of them, of twelve bits at most (T.4, table
     /// 4). Where it finds no two, the source is as it was.
     #[inline(always)]
+    // ensures read { IfSome result (λ found. AreVerticalsRead self.old.left found self.new.left) }
+    // ensures unchanged { result ≡ None → self.new ≡ self.old }
+    // The source goes on in the same bits.
+    // ensures same_end { KeepsEnd self.old self.new }
+    // ensures shorter { IsSome result → length self.new.left < length self.old.left }
     pub fn verticals(&mut self) -> Option<Verticals> {
         self.window = self.window.loaded(self.bytes, self.order)?;
         let (len, found) = find_verticals(self.window.number(LOOKED_AT) >> AFTER_CODE)?;
@@ -131,6 +167,8 @@ impl<'a> BitSource<'a> {
 
     /// So many ones are next. More of them may follow.
     #[inline(always)]
+    // ensures ones { take result self.now.left ≡ replicate result true }
+    // ensures within { result ≤ length self.now.left }
     pub fn ones(&self) -> u32 {
         self.window.ones()
     }
@@ -139,6 +177,10 @@ impl<'a> BitSource<'a> {
     /// them may follow.
     #[inline(always)]
     // requires { most ≤ 32 }
+    // ensures ones { self.old.left ≡ replicate result true ++ self.new.left }
+    // ensures few { result ≤ most }
+    // The source goes on in the same bits.
+    // ensures same_end { KeepsEnd self.old self.new }
     pub fn past_ones(&mut self, most: u32) -> u32 {
         let count = self.window.ones().min(most);
         self.window = self.window.after(count);
@@ -148,6 +190,11 @@ impl<'a> BitSource<'a> {
     /// Goes past zeros that are next, `least` of them or more, and the 1 after them, by one
     /// look-up, and answers whether it finds them so. Else the source is as it was.
     #[inline(always)]
+    // ensures past { IsTrue result → (zeros : ℕ) × (least ≤ zeros)
+    //     × (self.old.left ≡ replicate zeros false ++ true ∷ self.new.left) }
+    // ensures unchanged { result ≡ false → self.new.left ≡ self.old.left }
+    // The source goes on in the same bits.
+    // ensures same_end { KeepsEnd self.old self.new }
     pub fn past_zeros_and_one(&mut self, least: u32) -> bool {
         // An EOL is so where it stands in thirty-two bits; fill that is longer goes by bytes.
         let Some(ahead) = self.window.loaded(self.bytes, self.order) else {

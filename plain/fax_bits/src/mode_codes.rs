@@ -1,3 +1,4 @@
+// Made by tools/plain-rust of crates/fax_bits/src/mode_codes.rt: change that.
 //! The modes of two-dimensional coding (ITU-T T.4, table 4).
 
 use crate::codes::{CodeEntry, CodeTable, LONGEST_CODE, within};
@@ -73,6 +74,8 @@ impl CodeTable for Modes {
 /// The length and the meaning of the code of a vertical mode that begins thirteen bits.
 #[inline(always)]
 // requires { bits < 2 ^ LONGEST_CODE }
+// ensures { IfSome result
+//     (λ found. HasCodeAhead modes (code_bits LONGEST_CODE bits) found.0 found.1) }
 fn find_vertical(bits: u32) -> Option<(u32, ModeCode)> {
     // One look-up of seven bits, where nine compares in turn had to part the modes of a dithered
     // page. In most of them a1 is left of b1, which says alone that there is a code: the sign is
@@ -90,6 +93,8 @@ fn find_vertical(bits: u32) -> Option<(u32, ModeCode)> {
 /// The length and the meaning of the code of pass or horizontal mode that begins thirteen bits.
 #[inline(always)]
 // requires { bits < 2 ^ LONGEST_CODE }
+// ensures { IfSome result
+//     (λ found. HasCodeAhead modes (code_bits LONGEST_CODE bits) found.0 found.1) }
 fn find_pass_or_horizontal(bits: u32) -> Option<(u32, ModeCode)> {
     match bits >> (LONGEST_CODE - 4) {
         0b0001 => Some((4, ModeCode::Pass)),
@@ -102,6 +107,8 @@ fn find_pass_or_horizontal(bits: u32) -> Option<(u32, ModeCode)> {
 /// says nothing. Vertical modes are looked for first, or with `SELDOM_VERTICAL` last.
 #[inline(always)]
 // requires { bits < 2 ^ LONGEST_CODE }
+// ensures { IfSome result
+//     (λ found. HasCodeAhead modes (code_bits LONGEST_CODE bits) found.0 found.1) }
 pub(crate) fn find_mode<const SELDOM_VERTICAL: bool>(bits: u32) -> Option<(u32, ModeCode)> {
     if SELDOM_VERTICAL {
         find_pass_or_horizontal(bits).or_else(|| find_vertical(bits))

@@ -1,6 +1,6 @@
+// Made by tools/plain-rust of crates/fax_bits/src/pairs.rt: change that.
 //! A white run and the black one after it, looked up at once, and any two short runs put at once.
 
-use crate::codes::LONGEST_CODE;
 use crate::indexes::{BLACK_PAIR_CODES, BLACK_PAIR_LENS, PAIRS, WHITE_PAIR_CODES, WHITE_PAIR_LENS};
 use crate::{Colour, PendingBits};
 
@@ -18,6 +18,8 @@ pub struct Pair {
 /// many they take. Each of its runs has pels. `None` where no such pair does.
 #[inline(always)]
 // requires { bits < 2 ^ LONGEST_CODE }
+// ensures { IfSome result
+//     (λ found. IsPairAhead (code_bits LONGEST_CODE bits) found.0 found.1) }
 pub(crate) fn find_pair(bits: u32) -> Option<(u32, Pair)> {
     // The three arrays are one static, so that they have one address in a register. `make-indexes`
     // prints them; a computed proof goes through all 4,096 numbers.
@@ -38,6 +40,7 @@ pub(crate) fn find_pair(bits: u32) -> Option<(u32, Pair)> {
 #[inline(always)]
 // requires first { first < SHORT_RUN }
 // requires second { second < SHORT_RUN }
+// ensures { result ≡ pair_bits colour first second }
 pub(crate) fn short_pair_code(colour: Colour, first: u32, second: u32) -> PendingBits {
     // The codes of both stand together in arrays of 256, for white first and for black first, which
     // `make-indexes` prints; a computed proof compares each with the code tables.

@@ -1,3 +1,4 @@
+// Made by tools/plain-rust of crates/fax_bits/src/pending.rt: change that.
 //! Bits that wait for a sink, by value: what the codes of a row are put into one after another.
 //! Whole words of them go to the sink.
 
@@ -25,6 +26,7 @@ impl Model for PendingBits {}
 impl PendingBits {
     /// No bits.
     #[inline(always)]
+    // ensures { result ≡ [] }
     pub fn none() -> Self {
         PendingBits {
             number: 0,
@@ -36,6 +38,7 @@ impl PendingBits {
     #[inline(always)]
     // requires short { len ≤ 32 }
     // requires fits { bits < 2 ^ len }
+    // ensures { result ≡ code_bits len bits }
     pub(crate) fn of(bits: u32, len: u32) -> Self {
         PendingBits {
             number: u64::from(bits),
@@ -46,6 +49,7 @@ impl PendingBits {
     /// These and the next ones.
     #[inline(always)]
     // requires { length self + length next ≤ 32 }
+    // ensures { result ≡ self ++ next }
     pub(crate) fn then(self, next: Self) -> Self {
         PendingBits {
             number: (self.number << next.count) | next.number,
@@ -56,6 +60,8 @@ impl PendingBits {
     /// Puts the first word of these and the next ones into the sink, where they are so many, and
     /// answers the others. After an `Err` the sink is as it was.
     #[inline(always)]
+    // ensures ok { IfOk result (λ left. AppendsAllBut sink.old (self ++ next) left sink.new) }
+    // ensures err { OnErr result (sink.new ≡ sink.old) }
     pub(crate) fn put(self, sink: &mut BitSink, next: Self) -> Result<Self, Memory> {
         let number = (self.number << next.count) | next.number;
         let count = self.count + next.count;
@@ -73,6 +79,8 @@ impl PendingBits {
     /// Goes past these bits in a source, where they stand next, and answers whether they do. Else
     /// the source stays.
     #[inline(always)]
+    // ensures taken { IsTaken self source.old.left result source.new.left }
+    // ensures same_end { KeepsEnd source.old source.new }
     pub(crate) fn take(self, source: &mut BitSource) -> bool {
         source.take(self.number as u32, self.count)
     }
@@ -82,6 +90,8 @@ impl PendingBits {
     /// # Errors
     ///
     /// Where a growth was refused. The sink is then as it was.
+    // ensures ok { OnOk result (Appends sink.old self sink.new) }
+    // ensures err { OnErr result (sink.new ≡ sink.old) }
     pub fn put_all(self, sink: &mut BitSink) -> Result<(), Memory> {
         sink.put(self.number as u32, self.count)
     }

@@ -1,8 +1,8 @@
+// Made by tools/plain-rust of crates/fax_bits/src/put.rt: change that.
 //! The codes of runs and modes as they are written: put into a sink or after pending bits, or
 //! looked for in a source (ITU-T T.4, sections 4.1.1 and 4.2.1.3.2).
 
-use crate::codes::LONGEST_CODE;
-use crate::pairs::{SHORT_RUN, short_pair_code};
+use crate::pairs::short_pair_code;
 use crate::run_codes::{TERMINATING_CODES, run_entry};
 use crate::{BitSink, BitSource, Colour, Memory, ModeCode, PendingBits};
 
@@ -22,6 +22,8 @@ pub(crate) static VERTICAL_CODES: VerticalCodes = VerticalCodes {
 /// The code at a place of the run table of a colour.
 #[inline(always)]
 // requires { place < 105 }
+// ensures bits { result ≡ run_code_bits colour (run_meaning place) }
+// ensures short { length result ≤ LONGEST_CODE }
 fn run_code(colour: Colour, place: usize) -> PendingBits {
     let entry = run_entry(colour, place);
     PendingBits::of(u32::from(entry.code), u32::from(entry.len))
@@ -31,6 +33,8 @@ fn run_code(colour: Colour, place: usize) -> PendingBits {
 #[inline(always)]
 // requires some { 0 < steps }
 // requires few { steps ≤ 40 }
+// ensures bits { result ≡ run_code_bits colour (MakeUp (64 * steps)) }
+// ensures short { length result ≤ LONGEST_CODE }
 fn make_up_code(colour: Colour, steps: u32) -> PendingBits {
     run_code(colour, usize::from(TERMINATING_CODES) - 1 + steps as usize)
 }
@@ -39,6 +43,7 @@ fn make_up_code(colour: Colour, steps: u32) -> PendingBits {
 /// code (T.4, section 4.1.1).
 #[inline(always)]
 // requires { n < 2560 }
+// ensures { result ≡ run_bits colour n }
 fn codes_of_run(colour: Colour, n: u32) -> PendingBits {
     if n < 64 {
         return run_code(colour, n as usize);
@@ -50,6 +55,7 @@ fn codes_of_run(colour: Colour, n: u32) -> PendingBits {
 /// table 4).
 #[inline(always)]
 // requires { IsWritten (Vertical d) }
+// ensures { result ≡ mode_bits (Vertical d) }
 fn vertical_code(d: i8) -> PendingBits {
     let place = (i32::from(d) + 3) as usize;
     PendingBits::of(
@@ -61,6 +67,7 @@ fn vertical_code(d: i8) -> PendingBits {
 /// The code of a mode (T.4, section 4.2.1.3.2 and table 4).
 #[inline(always)]
 // requires { IsWritten mode }
+// ensures { result ≡ mode_bits mode }
 fn mode_code(mode: ModeCode) -> PendingBits {
     match mode {
         ModeCode::Pass => PendingBits::of(0b0001, 4),
@@ -79,6 +86,8 @@ fn mode_code(mode: ModeCode) -> PendingBits {
 /// Where a growth was refused. Some of these codes may have been put then, from the first on and
 /// each of them whole.
 // requires { n < 2 ^ 16 }
+// ensures ok { OnOk result (Appends sink.old (run_bits colour n) sink.new) }
+// ensures err { OnErr result (AppendsCodes sink.old colour (run_codes n) sink.new) }
 pub fn put_run(sink: &mut BitSink, colour: Colour, n: u32) -> Result<(), Memory> {
     for _ in 0..n / 2560 {
         make_up_code(colour, 40).put_all(sink)?;
@@ -93,6 +102,8 @@ pub fn put_run(sink: &mut BitSink, colour: Colour, n: u32) -> Result<(), Memory>
 ///
 /// Where a growth was refused. The sink is then as it was.
 // requires { IsWritten mode }
+// ensures ok { OnOk result (Appends sink.old (mode_bits mode) sink.new) }
+// ensures err { OnErr result (sink.new ≡ sink.old) }
 pub fn put_mode(sink: &mut BitSink, mode: ModeCode) -> Result<(), Memory> {
     mode_code(mode).put_all(sink)
 }
@@ -108,6 +119,9 @@ impl PendingBits {
     /// then.
     #[inline(always)]
     // requires { n < 2 ^ 16 }
+    // ensures ok { IfOk result
+    //     (λ left. AppendsAllBut sink.old (self ++ run_bits colour n) left sink.new) }
+    // ensures err { OnErr result (AppendsPrefix sink.old (self ++ run_bits colour n) sink.new) }
     pub fn put_run(self, sink: &mut BitSink, colour: Colour, n: u32) -> Result<Self, Memory> {
         if n < 2560 {
             return self.put(sink, codes_of_run(colour, n));
@@ -119,6 +133,8 @@ impl PendingBits {
     /// Puts these bits and a run of any length, after which none is pending.
     #[inline(never)]
     // requires { n < 2 ^ 16 }
+    // ensures ok { OnOk result (Appends sink.old (self ++ run_bits colour n) sink.new) }
+    // ensures err { OnErr result (AppendsPrefix sink.old (self ++ run_bits colour n) sink.new) }
     fn put_longest_run(self, sink: &mut BitSink, colour: Colour, n: u32) -> Result<(), Memory> {
         self.put_all(sink)?;
         put_run(sink, colour, n)
@@ -134,6 +150,10 @@ impl PendingBits {
     #[inline(always)]
     // requires first { first < SHORT_RUN }
     // requires second { second < SHORT_RUN }
+    // ensures ok { IfOk result
+    //     (λ left. AppendsAllBut sink.old (self ++ pair_bits colour first second)
+    //     left sink.new) }
+    // ensures err { OnErr result (sink.new ≡ sink.old) }
     pub fn put_short_pair(
         self,
         sink: &mut BitSink,
@@ -153,6 +173,9 @@ impl PendingBits {
     /// Where a growth was refused. The sink is then as it was.
     #[inline(always)]
     // requires { IsWritten mode }
+    // ensures ok { IfOk result
+    //     (λ left. AppendsAllBut sink.old (self ++ mode_bits mode) left sink.new) }
+    // ensures err { OnErr result (sink.new ≡ sink.old) }
     pub fn put_mode(self, sink: &mut BitSink, mode: ModeCode) -> Result<Self, Memory> {
         self.put(sink, mode_code(mode))
     }
@@ -163,6 +186,9 @@ impl BitSource<'_> {
     /// stand next, and answers whether they do (T.4, section 4.1.1). Else it stays.
     #[inline(always)]
     // requires { n < 2560 }
+    // ensures taken { IsTaken (run_bits colour n) self.old.left result self.new.left }
+    // The source goes on in the same bits.
+    // ensures same_end { KeepsEnd self.old self.new }
     pub fn take_run(&mut self, colour: Colour, n: u32) -> bool {
         codes_of_run(colour, n).take(self)
     }

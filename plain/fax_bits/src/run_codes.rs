@@ -1,3 +1,4 @@
+// Made by tools/plain-rust of crates/fax_bits/src/run_codes.rt: change that.
 //! The codes of runs (ITU-T T.4, tables 2, 3a and 3b).
 
 use crate::Colour;
@@ -112,6 +113,7 @@ impl CodeTable for BlackRuns {
 /// The entry at a place of the run table of a colour.
 #[inline(always)]
 // requires { i < 105 }
+// ensures found { slice_get (run_table colour) i ≡ Some result }
 pub(crate) fn run_entry(colour: Colour, i: usize) -> CodeEntry<RunCode> {
     let (code, len) = match colour {
         Colour::White => (WHITE_CODES[i], WHITE_LENS[i]),
@@ -127,6 +129,8 @@ pub(crate) fn run_entry(colour: Colour, i: usize) -> CodeEntry<RunCode> {
 /// What `find` of the run table of a colour says.
 // requires few { n ≤ LONGEST_CODE }
 // requires fits { window < 2 ^ n }
+// ensures { MatchOption result (HasNoCode (run_table colour) (code_bits n window))
+//     (λ found. HasCodeAhead (run_table colour) (code_bits n window) found.0 found.1) }
 fn find_run(colour: Colour, window: u32, n: u32) -> Option<(u32, RunCode)> {
     let place = run_place(colour, window << (LONGEST_CODE - n));
     if place < RUN_ENTRIES {
@@ -140,6 +144,7 @@ fn find_run(colour: Colour, window: u32, n: u32) -> Option<(u32, RunCode)> {
 /// codes where none does.
 #[inline(always)]
 // requires { bits < 2 ^ LONGEST_CODE }
+// ensures { result ≡ place_of (run_table colour) LONGEST_CODE bits }
 fn run_place(colour: Colour, bits: u32) -> usize {
     let at = bits as usize;
     match colour {
@@ -154,6 +159,8 @@ fn run_place(colour: Colour, bits: u32) -> usize {
 /// for the extension. `None` where no such code does. Short codes are looked up first.
 #[inline(always)]
 // requires { bits < 2 ^ LONGEST_CODE }
+// ensures { IfSome result
+//     (λ found. HasCodeAhead (run_table colour) (code_bits LONGEST_CODE bits) found.0 found.1) }
 pub(crate) fn find_run_code(colour: Colour, bits: u32) -> Option<(u32, RunCode)> {
     // The array of the long codes has numbers of sixteen bits and that of the short ones of eight,
     // so that the compiler does not load from either by one address, which it would compute at each
@@ -176,6 +183,7 @@ pub(crate) fn find_run_code(colour: Colour, bits: u32) -> Option<(u32, RunCode)>
 
 /// What the code at a place of a run table means.
 // requires { i < 105 }
+// ensures { result ≡ run_meaning i }
 fn meaning_at(i: u16) -> RunCode {
     if i < TERMINATING_CODES {
         RunCode::Terminating(i)

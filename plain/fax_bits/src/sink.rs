@@ -1,3 +1,4 @@
+// Made by tools/plain-rust of crates/fax_bits/src/sink.rt: change that.
 //! Bits that are put one after another into bytes.
 
 use kit_std::prelude::Vec;
@@ -18,6 +19,12 @@ const ROOM: usize = 9;
 // requires few { count ≤ 64 }
 // requires fits { pending < 2 ^ count }
 // requires room { 8 * vec_len bytes.old + count ≤ 8 * vec_capacity bytes.old }
+// ensures pushed { bits MsbFirst bytes.new.items ++ code_bits result.1 result.0
+//     ≡ bits MsbFirst bytes.old.items ++ code_bits count pending }
+// ensures fewer { result.1 < 8 }
+// ensures fits { result.0 < 2 ^ result.1 }
+// ensures len { 8 * vec_len bytes.new + result.1 ≡ 8 * vec_len bytes.old + count }
+// ensures room { vec_capacity bytes.new ≡ vec_capacity bytes.old }
 fn push_whole(bytes: &mut Vec<u8>, pending: u64, count: u32) -> (u64, u32) {
     let mut rest = pending;
     let mut left = count;
@@ -33,6 +40,10 @@ fn push_whole(bytes: &mut Vec<u8>, pending: u64, count: u32) -> (u64, u32) {
 /// Pushes the four bytes of a word, the highest first, after bytes that have room for them.
 #[inline(always)]
 // requires room { vec_len bytes.old + 4 ≤ vec_capacity bytes.old }
+// ensures pushed { bits MsbFirst bytes.new.items ≡ bits MsbFirst bytes.old.items
+//     ++ code_bits 32 word }
+// ensures len { vec_len bytes.new ≡ vec_len bytes.old + 4 }
+// ensures room { vec_capacity bytes.old ≤ vec_capacity bytes.new }
 fn push_word(bytes: &mut Vec<u8>, word: u32) {
     // There is room, so that this does not fail.
     let _ = bytes.extend_from_slice(&word.to_be_bytes());
@@ -59,6 +70,7 @@ impl Model for BitSink {}
 
 impl BitSink {
     /// No bits; `order` says which bit of a byte is put first (TIFF 6.0, FillOrder).
+    // ensures { result ≡ record { order = order; bits = [] } }
     pub fn new(alloc: Global, order: FillOrder) -> Self {
         BitSink {
             order,
@@ -70,11 +82,13 @@ impl BitSink {
     }
 
     /// How many bits were put.
+    // ensures { result ≡ length self.now.bits }
     pub fn len(&self) -> u128 {
         self.bytes.len() as u128 * 8 + u128::from(self.count)
     }
 
     /// Forgets all bits. Their memory stays for those to come.
+    // ensures { self.new ≡ record self.old { bits = [] } }
     pub fn clear(&mut self) {
         self.bytes.clear();
         self.pending = 0;
@@ -82,6 +96,7 @@ impl BitSink {
     }
 
     /// Whether the bits that a source has left begin with these.
+    // ensures { IsTrue result ↔ BeginsWith source.now.left self.now.bits }
     pub fn begins(&self, source: &BitSource) -> bool {
         let mut ahead = source.again();
         for byte in &self.bytes {
@@ -100,6 +115,8 @@ impl BitSink {
     #[inline(always)]
     // requires short { len ≤ 32 }
     // requires fits { bits < 2 ^ len }
+    // ensures ok { OnOk result (Appends self.old (code_bits len bits) self.new) }
+    // ensures err { OnErr result (self.new ≡ self.old) }
     pub fn put(&mut self, bits: u32, len: u32) -> Result<(), Memory> {
         let count = self.count + len;
         if count > self.most {
@@ -115,6 +132,8 @@ impl BitSink {
     #[inline(never)]
     // requires short { len ≤ 32 }
     // requires fits { bits < 2 ^ len }
+    // ensures ok { OnOk result (Appends self.old (code_bits len bits) self.new) }
+    // ensures err { OnErr result (self.new ≡ self.old) }
     fn store(&mut self, bits: u32, len: u32) -> Result<(), Memory> {
         self.bytes.reserve(ROOM).map_err(|_| Memory)?;
         let pending = (self.pending << len) | u64::from(bits);
@@ -134,6 +153,8 @@ impl BitSink {
 
     /// Puts the 32 bits of a word, the highest first. After an `Err` the sink is as it was.
     #[inline(always)]
+    // ensures ok { OnOk result (Appends self.old (code_bits 32 word) self.new) }
+    // ensures err { OnErr result (self.new ≡ self.old) }
     pub(crate) fn put_word(&mut self, word: u32) -> Result<(), Memory> {
         if self.bytes.capacity() - self.bytes.len() < ROOM {
             return self.store(word, 32);
@@ -146,6 +167,7 @@ impl BitSink {
     }
 
     /// Puts zeros up to a whole byte. This takes no memory.
+    // ensures { IsPadded self.old self.new }
     pub fn pad(&mut self) {
         let zeros = (MOST_PENDING - self.count) % 8;
         self.pending <<= zeros;
@@ -154,6 +176,7 @@ impl BitSink {
 
     /// The bytes of the bits, which make up whole bytes.
     // requires whole { length self.bits % 8 ≡ 0 }
+    // ensures { bits self.order result.items ≡ self.bits }
     pub fn into_bytes(self) -> Vec<u8> {
         let mut bytes = self.bytes;
         // No bits are pending after these bytes.

@@ -1,3 +1,4 @@
+// Made by tools/plain-rust of crates/fax_bits/src/source.rt: change that.
 //! Bits of bytes, read from a place on.
 
 use crate::FillOrder;
@@ -20,6 +21,7 @@ impl<'a> BitSource<'a> {
     /// (TIFF 6.0, FillOrder).
     #[inline(never)]
     // requires count { length bytes.now ≤ 4294967295 }
+    // ensures { result ≡ source_of order bytes.now 0 }
     pub fn new(bytes: &'a [u8], order: FillOrder) -> Self {
         BitSource {
             bytes,
@@ -29,17 +31,20 @@ impl<'a> BitSource<'a> {
     }
 
     /// How many bits were skipped since the first one.
+    // ensures { result ≡ self.now.place }
     pub fn place(&self) -> u64 {
         self.window.place()
     }
 
     /// How many bits are left.
+    // ensures { result ≡ length self.now.left }
     pub fn remaining(&self) -> u64 {
         (self.bytes.len() - self.window.at) as u64 * 8 + u64::from(self.window.count)
     }
 
     /// The bit that is `i` bits ahead.
     // requires { i < length self.now.left }
+    // ensures { result ≡ slice_index_or self.now.left i false }
     pub(crate) fn bit(&self, i: u64) -> bool {
         let at = self.window.place() + i;
         let byte = self.bytes[(at / 8) as usize];
@@ -49,6 +54,7 @@ impl<'a> BitSource<'a> {
     /// The number that the next `n` bits spell, 0 to 32 of them, the highest first. Past the end of
     /// the bytes it sees zeros, which are no bits: `remaining` says how many bits there are.
     // requires { n ≤ 32 }
+    // ensures { result ≡ bits_number (take n (self.now.left ++ replicate n false)) }
     pub fn peek(&self, n: u32) -> u32 {
         if n == 0 {
             return 0;
@@ -62,12 +68,14 @@ impl<'a> BitSource<'a> {
     /// The byte that begins `i` bits ahead is whole and all zeros. `false` where no byte begins
     /// there.
     // requires { i < length self.now.left }
+    // ensures { IsTrue result → IsZeroByteAt self.now.left i }
     fn is_zero_byte(&self, i: u64) -> bool {
         let at = self.window.place() + i;
         at % 8 == 0 && self.bytes[(at / 8) as usize] == 0
     }
 
     /// How many zeros stand before the next 1, or `None` where no 1 is left.
+    // ensures { MatchOption result (IsAllZeros self.now.left) (HasZerosAhead self.now.left) }
     pub fn zeros(&self) -> Option<u64> {
         let zeros = self.window.zeros();
         if zeros < self.window.count {
@@ -78,6 +86,7 @@ impl<'a> BitSource<'a> {
 
     /// What `zeros` says where no 1 is loaded.
     #[inline(never)]
+    // ensures { MatchOption result (IsAllZeros self.now.left) (HasZerosAhead self.now.left) }
     fn zeros_filled(&self) -> Option<u64> {
         let ahead = self.window.filled(self.bytes, self.order);
         let zeros = ahead.zeros();
@@ -89,6 +98,7 @@ impl<'a> BitSource<'a> {
 
     /// What `zeros` says, by bytes and bits: in fill, and near the end of the bytes.
     #[inline(never)]
+    // ensures { MatchOption result (IsAllZeros self.now.left) (HasZerosAhead self.now.left) }
     fn zeros_by_bytes(&self) -> Option<u64> {
         let left = self.remaining();
         let mut zeros = 0;
@@ -106,6 +116,7 @@ impl<'a> BitSource<'a> {
 
     /// The same place once more.
     #[inline(always)]
+    // ensures { result ≡ self.now }
     pub fn again(&self) -> Self {
         // A reader of rows works on a copy, which the compiler keeps in registers, and goes to
         // where the copy stands at the row's end.
@@ -119,6 +130,7 @@ impl<'a> BitSource<'a> {
 
     /// Goes to the place of another source.
     #[inline(always)]
+    // ensures { self.new ≡ other.now }
     pub fn go_to(&mut self, other: &BitSource<'a>) {
         // By its fields, so that a copy in registers has no gaps that are copied too.
         self.bytes = other.bytes;
@@ -130,6 +142,9 @@ impl<'a> BitSource<'a> {
     /// stand next, and answers whether they do. Else it stays.
     // requires short { len ≤ 32 }
     // requires fits { bits < 2 ^ len }
+    // ensures taken { IsTaken (code_bits len bits) self.old.left result self.new.left }
+    // The source goes on in the same bits.
+    // ensures same_end { KeepsEnd self.old self.new }
     pub fn take(&mut self, bits: u32, len: u32) -> bool {
         if len == 0 {
             return true;
@@ -145,6 +160,7 @@ impl<'a> BitSource<'a> {
     /// Whether the lowest `len` bits of `bits`, 0 to 48 of them, the highest first, stand next.
     // requires short { len ≤ 48 }
     // requires fits { bits < 2 ^ len }
+    // ensures { IsTrue result ↔ BeginsWith self.now.left (code_bits len bits) }
     pub(crate) fn begins(&self, bits: u64, len: u32) -> bool {
         let low = len / 2;
         let mut ahead = self.again();
@@ -157,6 +173,7 @@ impl<'a> BitSource<'a> {
     /// Goes on by `n` bits.
     #[inline(always)]
     // requires { n ≤ length self.old.left }
+    // ensures { self.new ≡ record { left = drop n self.old.left; place = self.old.place + n } }
     pub fn skip(&mut self, n: u64) {
         if n <= u64::from(self.window.count) && n < 64 {
             self.window = self.window.after(n as u32);
@@ -169,6 +186,8 @@ impl<'a> BitSource<'a> {
     #[inline(always)]
     // requires ahead { self.old.place ≤ place }
     // requires within { place ≤ self.old.place + length self.old.left }
+    // ensures { self.new
+    //     ≡ record { left = drop (place - self.old.place) self.old.left; place = place } }
     pub fn skip_to(&mut self, place: u64) {
         // By its fields, so that the window that is gone on with need not stand in memory.
         let window = Window::from_place(self.bytes, self.order, place);
@@ -178,6 +197,7 @@ impl<'a> BitSource<'a> {
     /// What `skip` does past bits that are not loaded.
     #[inline(never)]
     // requires { n ≤ length self.old.left }
+    // ensures { self.new ≡ record { left = drop n self.old.left; place = self.old.place + n } }
     fn skip_further(&mut self, n: u64) {
         let place = self.window.place() + n;
         let ahead = self.window.filled(self.bytes, self.order);
@@ -191,6 +211,7 @@ impl<'a> BitSource<'a> {
 
 /// Which bit of a byte, 0 the lowest, is coded at a place of its eight bits (TIFF 6.0, FillOrder).
 // requires { place < 8 }
+// ensures { result ≡ bit_in_byte order place }
 fn bit_in_byte(order: FillOrder, place: u64) -> u64 {
     match order {
         FillOrder::MsbFirst => 7 - place,

@@ -1,3 +1,4 @@
+// Made by tools/plain-rust of crates/fax_bits/src/vertical_indexes.rt: change that.
 //! The vertical modes whose codes follow one another in bits, for each number that the bits spell.
 //! It is printed by `make-indexes verticals` from the tables.
 

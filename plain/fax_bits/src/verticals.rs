@@ -1,6 +1,6 @@
+// Made by tools/plain-rust of crates/fax_bits/src/verticals.rt: change that.
 //! Vertical modes one after another, of which two to four are looked up at once.
 
-use crate::codes::LONGEST_CODE;
 use crate::vertical_indexes::VERTICALS;
 
 /// Vertical modes one after another: the first `count` of four.
@@ -15,6 +15,8 @@ pub struct Verticals {
 /// many they take: two modes to four. `None` where fewer begin them.
 #[inline(always)]
 // requires { bits < 2 ^ LONGEST_CODE }
+// ensures { IfSome result
+//     (λ found. IsBegun AreVerticals (code_bits LONGEST_CODE bits) found.0 found.1) }
 pub(crate) fn find_verticals(bits: u32) -> Option<(u32, Verticals)> {
     // Two modes at least are looked for: half the time of reading was mispredicted branches, one or
     // two a mode. The four of an entry stand in one number, as lanes take them, since an array of

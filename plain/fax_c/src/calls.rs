@@ -1,3 +1,4 @@
+// Made by tools/plain-rust of crates/fax_c/src: change that.
 //! The calls, over slices and structs of the caller.
 
 pub use crate::faults::FaxFault;

@@ -1,3 +1,4 @@
+// Made by tools/plain-rust of crates/fax_c/src/coding.rt: change that.
 //! Rows of a raster, coded as a strip.
 
 use kit_std::prelude::Vec;
@@ -14,6 +15,8 @@ use kit_std::alloc::Global;
 // requires limits { IsStripForm form }
 // requires some_k { 0 < k }
 // requires raster { Raster.HoldsRaster (length raster.now) form.width (first + form.rows) stride }
+// ensures { IfOk result (λ bytes. bytes.items
+//     ≡ coded_strip form k (Raster.rows_of_raster form.width stride raster.now first form.rows)) }
 pub(crate) fn code_strip(
     alloc: Global,
     form: StripForm,
@@ -22,7 +25,6 @@ pub(crate) fn code_strip(
     stride: usize,
     first: u32,
 ) -> Result<Vec<u8>, Memory> {
-    fax_page::laws::strips_are_written_row_by_row();
     let len = packed_len(form.width);
     let mut row = Row::white(alloc, form.width)?;
     let mut writer = StripWriter::new(alloc, form, k)?;
@@ -36,6 +38,9 @@ pub(crate) fn code_strip(
 
 /// Codes the rows of a raster as a strip, writes it where it has room, and tells how many bytes it
 /// has.
+// ensures { Spec.TellsStrip
+//     (record { form = form.now; k = k; raster = raster.now; stride = stride }) out.old out.new
+//     len.new result }
 pub fn faxpages_strip_code(
     alloc: Global,
     form: &FaxStrip,

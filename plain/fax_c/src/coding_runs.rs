@@ -1,3 +1,4 @@
+// Made by tools/plain-rust of crates/fax_c/src/coding_runs.rt: change that.
 //! Rows as runs, coded as a strip.
 
 use kit_std::prelude::Vec;
@@ -12,6 +13,10 @@ use kit_std::alloc::Global;
 
 /// Takes the pels of row `i` of a table, whose runs stand apart, and answers whether there is such
 /// a row of this width.
+// ensures taken { result ≡ true → Spec.IsRowAt (length row.old) rows.now runs.now i row.new }
+// ensures none { result ≡ false → (pels : List Colour)
+//     → Spec.IsRowAt (length row.old) rows.now runs.now i pels → ⊥ }
+// ensures same_width { length row.new ≡ length row.old }
 fn take_row(row: &mut Row, rows: &[FaxRow], runs: &[u32], i: usize) -> bool {
     if i >= rows.len() {
         return false;
@@ -28,6 +33,7 @@ fn take_row(row: &mut Row, rows: &[FaxRow], runs: &[u32], i: usize) -> bool {
 /// its width.
 // requires limits { IsStripForm form }
 // requires some_k { 0 < k }
+// ensures { IfOk result (Code.IsStripOfRuns form k rows.now runs.now) }
 fn code_rows(
     alloc: Global,
     form: StripForm,
@@ -35,7 +41,6 @@ fn code_rows(
     rows: &[FaxRow],
     runs: &[u32],
 ) -> Result<Option<Vec<u8>>, Memory> {
-    fax_page::laws::strips_are_written_row_by_row();
     let mut row = Row::white(alloc, form.width)?;
     let mut writer = StripWriter::new(alloc, form, k)?;
     for i in 0..form.rows {
@@ -50,6 +55,9 @@ fn code_rows(
 
 /// Codes rows as runs, which lie where a table says, as a strip, writes it where it has room, and
 /// tells how many bytes it has.
+// ensures { Spec.TellsStripOfRuns
+//     (record { form = form.now; k = k; table = rows.now; runs = runs.now }) out.old out.new
+//     len.new result }
 pub fn faxpages_strip_code_runs(
     alloc: Global,
     form: &FaxStrip,

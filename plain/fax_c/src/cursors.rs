@@ -1,3 +1,4 @@
+// Made by tools/plain-rust of crates/fax_c/src/cursors.rt: change that.
 //! Places as text and back.
 
 use kit_std::prelude::{str, String};
@@ -9,6 +10,7 @@ use fax_walk::{Begun, Cursor, LongCursor, LongFault};
 use kit_std::alloc::Global;
 
 /// Writes a text where it has room, tells how many bytes it has, and answers whether it had room.
+// ensures { Spec.IsTextTold text.now out.old out.new len.new result }
 pub(crate) fn put_counted(text: &[u8], out: &mut [u8], len: &mut usize) -> u32 {
     *len = put_text(text, out);
     if *len <= out.len() {
@@ -20,6 +22,7 @@ pub(crate) fn put_counted(text: &[u8], out: &mut [u8], len: &mut usize) -> u32 {
 
 /// Writes a place as text where it has room: as `1:P:R`, or inside a strip as `2:P:R:B:n,n,..`; and
 /// tells how many bytes it has.
+// ensures { Spec.TellsPlaceText place.now runs.now text.old text.new len.new result }
 pub fn faxpages_place_text(
     alloc: Global,
     place: &FaxPlace,
@@ -44,6 +47,7 @@ pub fn faxpages_place_text(
 }
 
 /// Reads a place from its text.
+// ensures { Spec.ReadsPlace text.now place.old runs.old place.new runs.new result }
 pub fn faxpages_place_parse(
     alloc: Global,
     text: &[u8],
@@ -52,7 +56,6 @@ pub fn faxpages_place_parse(
 ) -> u32 {
     // A text of more than 65,536 runs is NO_PLACE: NO_ROOM would have a caller grow `runs` for
     // ever.
-    fax_walk::laws::cursors_are_named();
     let Ok(text) = str::from_utf8(text) else {
         return status::NO_PLACE;
     };

@@ -1,3 +1,4 @@
+// Made by tools/plain-rust of crates/fax_c/src/ending.rt: change that.
 //! How many pages a file has that is written page by page, told in each of them.
 
 use crate::bytes::four_at;
@@ -10,6 +11,8 @@ use fax_files::put_totals;
 const TO_LINK: usize = 2 + 12 * 16;
 
 /// Whether the pages of a file can be told how many they are, as far as its numbers say.
+// ensures some { result ≡ true → Spec.IsEndable written.now }
+// ensures none { result ≡ false → Spec.IsEndable written.now → ⊥ }
 fn is_endable(written: &FaxWritten) -> bool {
     written.added >= 1
         && written.added <= MOST_PAGES
@@ -19,6 +22,9 @@ fn is_endable(written: &FaxWritten) -> bool {
 
 /// Where the link of a page stands to which a link leads, if that page lies after the link.
 // requires { link + 4 ≤ length file.now }
+// ensures page { MatchOption result (Written.IsLinkToPage file.now link → ⊥)
+//     (λ next. Written.IsLinkToPage file.now link) }
+// ensures next { MatchOption result ⊤ (λ next. next ≡ Written.next_link file.now link) }
 fn next_link(file: &[u8], link: usize) -> Option<usize> {
     let directory = four_at(file, link) as usize;
     if directory < link + 4 || directory > file.len().saturating_sub(TO_LINK + 4) {
@@ -29,6 +35,8 @@ fn next_link(file: &[u8], link: usize) -> Option<usize> {
 
 /// Whether so many pages stand in a file after its header, and the last has its link here.
 // requires { 8 ≤ length file.now }
+// ensures some { result ≡ true → Written.ArePagesAfter file.now count 4 last }
+// ensures none { result ≡ false → Written.ArePagesAfter file.now count 4 last → ⊥ }
 fn are_pages(file: &[u8], count: u32, last: usize) -> bool {
     let mut link = 4;
     for _ in 0..count {
@@ -41,6 +49,7 @@ fn are_pages(file: &[u8], count: u32, last: usize) -> bool {
 }
 
 /// Tells each page of a file of the caller how many there are, if these are its pages.
+// ensures { Spec.TellsPagesEnded file.old file.new written.old written.new result }
 fn end_pages(file: &mut [u8], written: &mut FaxWritten) -> u32 {
     // Until the pages are ended the total is 0, which TIFF calls not available: so the file is a
     // whole one after each page. One call at the end takes a time in proportion to the pages; a
@@ -63,7 +72,8 @@ fn end_pages(file: &mut [u8], written: &mut FaxWritten) -> u32 {
 
 /// Tells each page of a file that was written page by page how many there are, as one does of which
 /// that was known when the first was added.
+// ensures told { Spec.TellsPagesEnded file.old file.new written.old written.new result }
+// ensures whole { Spec.EndsWholeFile file.old file.new written.old result }
 pub fn faxpages_end_pages(file: &mut [u8], written: &mut FaxWritten) -> u32 {
-    fax_files::laws::totals_are_told();
     end_pages(file, written)
 }

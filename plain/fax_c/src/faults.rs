@@ -1,3 +1,4 @@
+// Made by tools/plain-rust of crates/fax_c/src/faults.rt: change that.
 //! The numbers of faults.
 
 use fax_files::{Cause, FileFault, PbmFault, StripFault};
@@ -22,6 +23,7 @@ pub struct FaxFault {
 }
 
 /// The number of a file's fault.
+// ensures { result ≡ Spec.fault_number (Cause.File fault) }
 fn file_fault_number(fault: FileFault) -> u32 {
     match fault {
         FileFault::ShortHeader => 1,
@@ -39,6 +41,7 @@ fn file_fault_number(fault: FileFault) -> u32 {
 }
 
 /// The number of a strip's fault.
+// ensures { result ≡ Spec.fault_number (Cause.Strip fault) }
 fn strip_fault_number(fault: StripFault) -> u32 {
     match fault {
         StripFault::DataEnds => 101,
@@ -52,6 +55,7 @@ fn strip_fault_number(fault: StripFault) -> u32 {
 }
 
 /// The number of a fault of a raw PBM.
+// ensures { result ≡ Spec.pbm_fault_number fault }
 pub(crate) fn pbm_fault_number(fault: PbmFault) -> u32 {
     match fault {
         PbmFault::BadHeader => 201,
@@ -61,6 +65,7 @@ pub(crate) fn pbm_fault_number(fault: PbmFault) -> u32 {
 }
 
 /// The number of a cause.
+// ensures { result ≡ Spec.fault_number cause }
 pub(crate) fn fault_number(cause: Cause) -> u32 {
     match cause {
         Cause::File(fault) => file_fault_number(fault),
@@ -70,6 +75,7 @@ pub(crate) fn fault_number(cause: Cause) -> u32 {
 
 impl FaxFault {
     /// No fault.
+    // ensures { result ≡ no_fault }
     pub(crate) fn none() -> Self {
         FaxFault {
             number: 0,
@@ -80,6 +86,7 @@ impl FaxFault {
     }
 
     /// A fault without a place.
+    // ensures { result ≡ fault_of_number number }
     pub(crate) fn of_number(number: u32) -> Self {
         FaxFault {
             number,
@@ -90,6 +97,7 @@ impl FaxFault {
     }
 
     /// A fault where this row of a page was due.
+    // ensures { result ≡ fault_of_cause page row cause }
     pub(crate) fn of_cause(page: u32, row: u32, cause: Cause) -> Self {
         let (_, tag) = cause.name();
         FaxFault {
@@ -101,6 +109,7 @@ impl FaxFault {
     }
 
     /// The fault of rows that nobody counted, where this row of a page is due after them.
+    // ensures { result ≡ end_fault page row end }
     pub(crate) fn of_rows_end(page: u32, row: u32, end: RowsEnd) -> Self {
         match end {
             RowsEnd::Marked | RowsEnd::DataEnd => FaxFault::none(),
@@ -115,6 +124,7 @@ impl FaxFault {
     }
 
     /// The fault with which rows or pages end.
+    // ensures { result ≡ fault_of_end end }
     pub(crate) fn of_end(end: End) -> Self {
         match end {
             End::Fault { page, row, cause } => FaxFault::of_cause(page, row, cause),

@@ -1,3 +1,4 @@
+// Made by tools/plain-rust of crates/fax_c/src/file_conversion.rt: change that.
 //! Files turned into others.
 
 use crate::bytes::{put_bytes, put_zeros};
@@ -35,6 +36,7 @@ pub struct FaxConverted {
 }
 
 /// The target with a number, if one has it.
+// ensures { Code.IsTargetOf number result }
 fn target_of(number: u32) -> Option<Target> {
     match number {
         0 => Some(Target::Pbm),
@@ -46,6 +48,7 @@ fn target_of(number: u32) -> Option<Target> {
 }
 
 /// The order of bits with a number, if one has it.
+// ensures { Code.IsOrderOf number result }
 pub(crate) fn order_of(number: u32) -> Option<FillOrder> {
     match number {
         1 => Some(FillOrder::MsbFirst),
@@ -55,6 +58,7 @@ pub(crate) fn order_of(number: u32) -> Option<FillOrder> {
 }
 
 /// Whether a target's rows can have aligned EOLs.
+// ensures { Code.HasEols target result }
 fn target_has_eols(target: Target) -> bool {
     match target {
         Target::Pbm | Target::Mmr => false,
@@ -63,6 +67,9 @@ fn target_has_eols(target: Target) -> bool {
 }
 
 /// The options that these numbers are, if they are any.
+// ensures { MatchOption result
+//     ((options : TheOptions) → Spec.AreOptionsGiven given.now options → ⊥)
+//     (Spec.AreOptionsGiven given.now) }
 fn options_of(given: &FaxOptions) -> Option<Options> {
     let target = target_of(given.target)?;
     let order = order_of(given.order)?;
@@ -88,6 +95,7 @@ fn options_of(given: &FaxOptions) -> Option<Options> {
 }
 
 /// The number that a call answers where a file is not converted.
+// ensures { result ≡ Code.refusal_status fault }
 fn refusal_status(fault: ConvertFault) -> u32 {
     match fault {
         ConvertFault::Memory => status::MEMORY,
@@ -97,6 +105,7 @@ fn refusal_status(fault: ConvertFault) -> u32 {
 
 impl FaxConverted {
     /// No output, and no fault.
+    // ensures { result ≡ no_output }
     fn none() -> Self {
         FaxConverted {
             len: 0,
@@ -106,6 +115,7 @@ impl FaxConverted {
     }
 
     /// Why a file is not converted.
+    // ensures { result ≡ refusal_of fault }
     fn refused(fault: ConvertFault) -> Self {
         let (image, fault) = match fault {
             ConvertFault::Source { page, row, cause } => (0, FaxFault::of_cause(page, row, cause)),
@@ -126,6 +136,8 @@ impl FaxConverted {
 
 /// Writes a part of an output at a place, and answers where it ends.
 // requires { at + length (part_bytes part) ≤ length out.old }
+// ensures written { out.new ≡ take at out.old ++ (part_bytes part.entry ++ drop result out.old) }
+// ensures end { result ≡ at + length (part_bytes part.entry) }
 fn put_part(out: &mut [u8], at: usize, part: Part) -> usize {
     let zeros = at + part.held.len();
     put_bytes(out, at, part.held);
@@ -134,6 +146,7 @@ fn put_part(out: &mut [u8], at: usize, part: Part) -> usize {
 }
 
 /// Writes an output part by part where it has room.
+// ensures { IsTextPut output.now out.old (length output.now) out.new }
 fn put_parts(output: &Parts, out: &mut [u8]) {
     if output.len() > out.len() {
         return;
@@ -146,6 +159,7 @@ fn put_parts(output: &Parts, out: &mut [u8]) {
 }
 
 /// Writes the output where it has room, and tells how long it is.
+// ensures { Spec.IsOutputTold output.now out.old out.new converted.new result }
 fn put_output(output: &Parts, out: &mut [u8], converted: &mut FaxConverted) -> u32 {
     *converted = FaxConverted {
         len: output.len(),
@@ -162,6 +176,7 @@ fn put_output(output: &Parts, out: &mut [u8], converted: &mut FaxConverted) -> u
 
 /// Turns a file into what the options say: raw PBM where it begins with `P4`, TIFF where it begins
 /// with `II` or `MM`; and writes that where it has room.
+// ensures { Spec.TellsConversion file.now options.now out.old out.new converted.new result }
 pub fn faxpages_convert(
     alloc: Global,
     file: &[u8],

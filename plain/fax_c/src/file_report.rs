@@ -1,3 +1,4 @@
+// Made by tools/plain-rust of crates/fax_c/src/file_report.rt: change that.
 //! What is worth a note in a file.
 
 use crate::faults::FaxFault;
@@ -32,6 +33,7 @@ pub struct FaxReport {
 
 impl FaxNote {
     /// A note as it stands in memory of the caller.
+    // ensures { result ≡ note_of note.now }
     fn of(note: &Note) -> Self {
         FaxNote {
             page: note.page,
@@ -43,6 +45,7 @@ impl FaxNote {
 
 impl FaxReport {
     /// A report as it stands in memory of the caller, without its notes.
+    // ensures { result ≡ report_of report.now }
     fn of(report: &Report) -> Self {
         FaxReport {
             pages: report.pages,
@@ -57,6 +60,7 @@ impl FaxReport {
 }
 
 /// Writes the first notes, as many as have room.
+// ensures { Spec.AreNotesPut found.now notes.old notes.new }
 fn put_notes(found: &[Note], notes: &mut [FaxNote]) {
     let count = found.len().min(notes.len());
     for i in 0..count {
@@ -66,6 +70,7 @@ fn put_notes(found: &[Note], notes: &mut [FaxNote]) {
 
 /// Reads a file wholly up to its first fault, and writes the first notes, as many as have room, and
 /// what else is reported.
+// ensures { Spec.TellsReport file.now notes.old notes.new report.old report.new result }
 pub fn faxpages_check(
     alloc: Global,
     file: &[u8],

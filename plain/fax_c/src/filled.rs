@@ -1,3 +1,4 @@
+// Made by tools/plain-rust of crates/fax_c/src/filled.rt: change that.
 //! How far a call has written, and why it wrote no more.
 
 use crate::faults::FaxFault;
@@ -29,6 +30,7 @@ pub(crate) struct Filled {
 
 impl Stop {
     /// Why nothing more is handed out.
+    // ensures { result ≡ stop_of fault }
     pub(crate) fn of_fault(fault: WalkFault) -> Self {
         match fault {
             WalkFault::AtRow { page, row, cause } => Stop::Ended(End::Fault { page, row, cause }),
@@ -38,11 +40,14 @@ impl Stop {
     }
 
     /// Whether the next row has no room.
+    // ensures room { result ≡ false → self ≢ Stop.NoRoom }
+    // ensures none { result ≡ true → self ≡ Stop.NoRoom }
     pub(crate) fn is_no_room(self) -> bool {
         matches!(self, Stop::NoRoom)
     }
 
     /// The number that a call answers.
+    // ensures { result ≡ status_of self }
     fn status(self) -> u32 {
         match self {
             Stop::Done => status::DONE,
@@ -55,6 +60,7 @@ impl Stop {
     }
 
     /// The fault that is told.
+    // ensures { result ≡ fault_of self }
     fn fault(self) -> FaxFault {
         match self {
             Stop::Ended(end) => FaxFault::of_end(end),
@@ -65,6 +71,7 @@ impl Stop {
 
 impl Filled {
     /// Nothing was written.
+    // ensures { result ≡ record { cursor = cursor; count = 0; used = 0; stop = stop } }
     pub(crate) fn nothing(cursor: Cursor, stop: Stop) -> Self {
         Filled {
             cursor,
@@ -75,6 +82,7 @@ impl Filled {
     }
 
     /// Tells what was written, and answers how the call ended.
+    // ensures { IsTold self.now told.new result }
     pub(crate) fn tell(&self, told: &mut FaxTold) -> u32 {
         *told = FaxTold {
             count: self.count,

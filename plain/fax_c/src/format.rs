@@ -1,3 +1,4 @@
+// Made by tools/plain-rust of crates/fax_c/src/format.rt: change that.
 //! How a row is written in memory of the caller: as numbers, one after another.
 
 use crate::raster::{packed_len, put_packed};
@@ -13,6 +14,9 @@ pub(crate) trait RowFormat {
 
     /// Writes those of a row at a place, where they have room, and answers where they end.
     // requires { at ≤ length out.old }
+    // ensures put { IsPutAt (numbers row.now) out.old at result out.new }
+    // ensures few { length (numbers row.now) ≤ 2 ^ 16 }
+    // ensures most { length (numbers row.now) ≤ MOST }
     fn put(row: &Row, out: &mut [Self::Number], at: usize) -> Option<usize>;
 }
 
@@ -36,6 +40,7 @@ pub(crate) struct Runs;
 
 /// Writes the runs that are left at a place where they have room.
 // requires { at + length runs.old ≤ length out.old }
+// ensures { out.new ≡ take at out.old ++ runs.old ++ drop (at + length runs.old) out.old }
 fn put_runs(runs: &mut LongestRuns, out: &mut [u32], at: usize) {
     let mut to = at;
     while let Some(run) = runs.next_run() {
@@ -46,6 +51,7 @@ fn put_runs(runs: &mut LongestRuns, out: &mut [u32], at: usize) {
 
 /// Writes the runs of a row where those of any row have room, and answers how many they are.
 // requires { 65536 ≤ length out.old }
+// ensures { IsPutAt (runs_of row.now) out.old 0 (Some result) out.new }
 pub(crate) fn put_all_runs(row: &Row, out: &mut [u32]) -> u32 {
     let mut runs = LongestRuns::of_row(row);
     let count = runs.len();

@@ -1,3 +1,4 @@
+// Made by tools/plain-rust of crates/fax_c/src/forms.rt: change that.
 //! The forms of pages.
 
 use crate::filled::{Filled, Stop};
@@ -36,6 +37,7 @@ pub struct FaxForm {
 }
 
 /// The number of a coding.
+// ensures { result ≡ Numbers.coding_number coding }
 fn coding_number(coding: Coding) -> u32 {
     match coding {
         Coding::Mh => 1,
@@ -45,6 +47,7 @@ fn coding_number(coding: Coding) -> u32 {
 }
 
 /// The number of an order of bits.
+// ensures { result ≡ Numbers.order_number order }
 fn order_number(order: FillOrder) -> u32 {
     match order {
         FillOrder::MsbFirst => 1,
@@ -54,6 +57,7 @@ fn order_number(order: FillOrder) -> u32 {
 
 impl FaxForm {
     /// A form as it stands in memory of the caller.
+    // ensures { result ≡ form_numbers form.now }
     pub(crate) fn of(form: &PageForm) -> Self {
         FaxForm {
             width: form.width,
@@ -74,6 +78,7 @@ impl FaxForm {
 }
 
 /// The form of the next page, or why there is none.
+// ensures { Code.IsFormAnswered pages.old result pages.new }
 pub(crate) fn next_form(pages: &mut Pages) -> Result<PageForm, End> {
     match pages.next_page() {
         Ok(Some((_, form))) => Ok(form),
@@ -88,8 +93,8 @@ pub(crate) fn next_form(pages: &mut Pages) -> Result<PageForm, End> {
 
 /// Writes the forms of the first pages of a reader, as many as have room.
 // requires { pages.old.given ≡ 0 }
+// ensures { Spec.AreFormsFilled pages.old.file pages.old.begun forms.old result forms.new }
 fn fill_forms(pages: &mut Pages, forms: &mut [FaxForm]) -> Filled {
-    fax_walk::laws::form_tails_are_one();
     let mut count = 0;
     while count < forms.len() {
         let cursor = pages.cursor();
@@ -118,6 +123,7 @@ fn fill_forms(pages: &mut Pages, forms: &mut [FaxForm]) -> Filled {
 
 /// Writes the forms of a file's pages from one on, as many as have room. The chain of directories
 /// is followed once.
+// ensures { Spec.TellsForms file.now page forms.old forms.new told.new result }
 pub fn faxpages_forms(
     file: &[u8],
     page: u32,

@@ -1,3 +1,4 @@
+// Made by tools/plain-rust of crates/fax_c/src/lib.rt: change that.
 //! Calls for C: over bytes and numbers in memory of the caller. Nothing is kept from one call to
 //! the next.
 #![forbid(unsafe_code)]

@@ -1,3 +1,4 @@
+// Made by tools/plain-rust of crates/fax_c/src/names.rt: change that.
 //! The names of faults, statuses and notes.
 
 use crate::caller_text::put_text;
@@ -5,6 +6,8 @@ use fax_files::{Cause, FileFault, PbmFault, StripFault};
 use fax_walk::NoteKind;
 
 /// The fault of a file with this number, if one has it.
+// ensures { MatchOption result ((fault : TheFileFault) → fault_number (Cause.File fault) ≢ number)
+//     (λ fault. fault_number (Cause.File fault) ≡ number) }
 fn file_fault(number: u32) -> Option<FileFault> {
     match number {
         1 => Some(FileFault::ShortHeader),
@@ -23,6 +26,9 @@ fn file_fault(number: u32) -> Option<FileFault> {
 }
 
 /// The fault of a strip with this number, if one has it.
+// ensures { MatchOption result
+//     ((fault : TheStripFault) → fault_number (Cause.Strip fault) ≢ number)
+//     (λ fault. fault_number (Cause.Strip fault) ≡ number) }
 fn strip_fault(number: u32) -> Option<StripFault> {
     match number {
         101 => Some(StripFault::DataEnds),
@@ -37,6 +43,8 @@ fn strip_fault(number: u32) -> Option<StripFault> {
 }
 
 /// A cause with this number, if one has it.
+// ensures { MatchOption result ((cause : TheCause) → fault_number cause ≢ number)
+//     (λ cause. fault_number cause ≡ number) }
 fn cause_of(number: u32) -> Option<Cause> {
     if let Some(fault) = file_fault(number) {
         return Some(Cause::File(fault));
@@ -48,6 +56,8 @@ fn cause_of(number: u32) -> Option<Cause> {
 }
 
 /// The fault of a raw PBM with this number, if one has it.
+// ensures { MatchOption result ((fault : ThePbmFault) → pbm_fault_number fault ≢ number)
+//     (λ fault. pbm_fault_number fault ≡ number) }
 fn pbm_fault(number: u32) -> Option<PbmFault> {
     match number {
         201 => Some(PbmFault::BadHeader),
@@ -58,6 +68,8 @@ fn pbm_fault(number: u32) -> Option<PbmFault> {
 }
 
 /// The name of the faults with this number, if one has it.
+// ensures { MatchOption result ((name : List ℕ) → Spec.IsNameOf number name → ⊥)
+//     (λ name. Spec.IsNameOf number name.now) }
 fn name_of(number: u32) -> Option<&'static str> {
     if let Some(cause) = cause_of(number) {
         let (name, _) = cause.name();
@@ -76,6 +88,7 @@ fn name_of(number: u32) -> Option<&'static str> {
 
 /// Writes the name of the faults with this number where it has room, and answers how many bytes it
 /// has: 0 where no fault has this number.
+// ensures { Spec.NamesFault number name.old result name.new }
 pub fn faxpages_fault_name(number: u32, name: &mut [u8]) -> usize {
     match name_of(number) {
         Some(text) => put_text(text.as_bytes(), name),
@@ -84,6 +97,7 @@ pub fn faxpages_fault_name(number: u32, name: &mut [u8]) -> usize {
 }
 
 /// The name of a status, or an empty text where none has this number.
+// ensures { result.now ≡ unwrap_or (slice_get Spec.status_names number) [] }
 fn status_name(number: u32) -> &'static str {
     match number {
         0 => "Done",
@@ -103,11 +117,14 @@ fn status_name(number: u32) -> &'static str {
 
 /// Writes the name of a status where it has room, and answers how many bytes it has: 0 where none
 /// has this number.
+// ensures { Spec.NamesStatus number name.old result name.new }
 pub fn faxpages_status_name(number: u32, name: &mut [u8]) -> usize {
     put_text(status_name(number).as_bytes(), name)
 }
 
 /// The kind of notes with this number, if one has it.
+// ensures { MatchOption result ((kind : TheNoteKind) → (number_and_name kind).0 ≢ number)
+//     (λ kind. (number_and_name kind).0 ≡ number) }
 fn note_kind(number: u32) -> Option<NoteKind> {
     match number {
         1 => Some(NoteKind::NoEndOfBlock),
@@ -121,6 +138,7 @@ fn note_kind(number: u32) -> Option<NoteKind> {
 
 /// Writes the name of the notes with this number where it has room, and answers how many bytes it
 /// has: 0 where no note has this number.
+// ensures { Spec.NamesNote number name.old result name.new }
 pub fn faxpages_note_name(number: u32, name: &mut [u8]) -> usize {
     match note_kind(number) {
         Some(kind) => put_text(kind.name().as_bytes(), name),

@@ -1,3 +1,4 @@
+// Made by tools/plain-rust of crates/fax_c/src/page_raster.rt: change that.
 //! A page, read into a raster.
 
 use crate::filled::{Filled, Stop};
@@ -9,6 +10,7 @@ use kit_std::alloc::Global;
 
 /// Writes the next row of a walk at a place of a raster, and answers where it ends.
 // requires { at ≤ length out.old }
+// ensures { Code.IsPutTo (Raster.padded_row stride) walk.old out.old at result walk.new out.new }
 fn put_next_padded(walk: &mut Walk, stride: usize, out: &mut [u8], at: usize) -> Result<usize, Stop> {
     match walk.next_row() {
         Ok(Some((_, row))) => match put_padded(row, stride, out, at) {
@@ -22,8 +24,8 @@ fn put_next_padded(walk: &mut Walk, stride: usize, out: &mut [u8], at: usize) ->
 
 /// Writes the first rows of a walk into a raster, as many as are asked for and have room.
 // requires { walk.old.given ≡ 0 }
+// ensures { Spec.IsRasterFilled walk.old.file walk.old.begun asked stride out.old result out.new }
 fn fill_raster(walk: &mut Walk, asked: u32, stride: usize, out: &mut [u8]) -> Filled {
-    fax_walk::laws::beginnings_have_one_tail();
     let mut count = 0;
     let mut used = 0;
     while count < asked {
@@ -53,6 +55,7 @@ fn fill_raster(walk: &mut Walk, asked: u32, stride: usize, out: &mut [u8]) -> Fi
 
 /// Writes the rows of a file's page into a raster, each so many bytes after the one above it, and
 /// tells its form.
+// ensures { Spec.TellsPage file.now page stride form.old form.new out.old out.new told.new result }
 pub fn faxpages_page(
     alloc: Global,
     file: &[u8],

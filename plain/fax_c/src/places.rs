@@ -1,3 +1,4 @@
+// Made by tools/plain-rust of crates/fax_c/src/places.rt: change that.
 //! Places inside strips, in memory of the caller.
 
 use kit_std::prelude::Vec;
@@ -24,6 +25,7 @@ pub struct FaxPlace {
 
 impl FaxPlace {
     /// A cursor alone.
+    // ensures { result ≡ place_at cursor }
     pub(crate) fn at(cursor: Cursor) -> Self {
         FaxPlace {
             page: cursor.page,
@@ -34,11 +36,14 @@ impl FaxPlace {
     }
 
     /// Whether it has more runs than stand beside it.
+    // ensures lacks { result ≡ true → Spec.LacksRuns self.now runs.now }
+    // ensures has { result ≡ false → self.now.runs ≤ length runs.now }
     pub(crate) fn lacks_runs(&self, runs: &[u32]) -> bool {
         runs.len() < self.runs as usize
     }
 
     /// Its cursor.
+    // ensures { result ≡ cursor_of self.now }
     pub(crate) fn cursor(&self) -> Cursor {
         Cursor {
             page: self.page,
@@ -49,6 +54,8 @@ impl FaxPlace {
 
 /// What a walk begins with that goes on at a place, or none where memory was refused for its runs.
 // requires { place.now.runs ≤ length runs.now }
+// ensures { MatchOption result (0 < place.now.runs)
+//     (λ begun. begun ≡ Spec.place_begun place.now runs.now) }
 pub(crate) fn begun_at(alloc: Global, place: &FaxPlace, runs: &[u32]) -> Option<Begun> {
     let at = place.cursor();
     if place.runs == 0 {
@@ -66,6 +73,7 @@ pub(crate) fn begun_at(alloc: Global, place: &FaxPlace, runs: &[u32]) -> Option<
 
 /// Tells a place inside a strip, where its runs have room, and answers how it was told.
 // requires { 0 < length found.now.runs }
+// ensures { Code.IsPlaceTold found.now place.old runs.old result place.new runs.new }
 pub(crate) fn tell_place(found: &LongCursor, place: &mut FaxPlace, runs: &mut [u32]) -> u32 {
     let count = found.runs.len();
     if count > MOST_RUNS {
@@ -88,6 +96,7 @@ pub(crate) fn tell_place(found: &LongCursor, place: &mut FaxPlace, runs: &mut [u
 /// its runs have room.
 // requires some { 0 < walk.now.given }
 // requires none { place.old.runs ≡ 0 }
+// ensures { Code.IsInsideTold walk.now place.old runs.old place.new runs.new }
 fn tell_inside(walk: &Walk, place: &mut FaxPlace, runs: &mut [u32]) {
     let Some(found) = walk.lend_place() else {
         return;
@@ -107,6 +116,9 @@ fn tell_inside(walk: &Walk, place: &mut FaxPlace, runs: &mut [u32]) {
 /// none, a place inside a strip stays.
 // requires given { 0 < count → walk.now.given ≡ count }
 // requires begun { count ≡ 0 → Code.IsBegunAt walk.now.begun place.old runs.old }
+// ensures place { Spec.IsAfterRows walk.now.file walk.now.begun cursor count place.new runs.new }
+// ensures kept { Spec.KeepsRuns runs.old runs.new }
+// ensures no_runs { count ≡ 0 → runs.new ≡ runs.old }
 fn tell_after(walk: &Walk, cursor: Cursor, count: usize, place: &mut FaxPlace, runs: &mut [u32]) {
     if count > 0 {
         *place = FaxPlace::at(cursor);
@@ -119,6 +131,11 @@ fn tell_after(walk: &Walk, cursor: Cursor, count: usize, place: &mut FaxPlace, r
 /// Tells the place before the next row, where rows stand before it and it may have no room in so
 /// many numbers: a walk that has handed it out has passed the place.
 // requires { walk.now.given ≡ count }
+// ensures told { 0 < count → room < F.MOST → Spec.IsAfterRows walk.now.file walk.now.begun cursor
+//     count place.new runs.new }
+// ensures none { count ≡ 0 → place.new ≡ place.old }
+// ensures no_runs { count ≡ 0 → runs.new ≡ runs.old }
+// ensures kept { Spec.KeepsRuns runs.old runs.new }
 pub(crate) fn place_before<F: RowFormat>(
     walk: &Walk,
     cursor: Cursor,
@@ -138,6 +155,7 @@ pub(crate) fn place_before<F: RowFormat>(
 // requires begun { filled.now.count ≡ 0 → Code.IsBegunAt walk.now.begun place.old runs.old }
 // requires told { 0 < filled.now.count → filled.now.stop ≡ NoRoom → Spec.IsAfterRows walk.now.file
 //     walk.now.begun filled.now.cursor filled.now.count place.old runs.old }
+// ensures { Spec.IsAfter walk.now.file walk.now.begun filled.now runs.old place.new runs.new }
 pub(crate) fn place_after(walk: &Walk, filled: &Filled, place: &mut FaxPlace, runs: &mut [u32]) {
     if filled.count == 0 || !filled.stop.is_no_room() {
         tell_after(walk, filled.cursor, filled.count, place, runs);

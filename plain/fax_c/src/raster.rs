@@ -1,13 +1,16 @@
+// Made by tools/plain-rust of crates/fax_c/src/raster.rt: change that.
 //! Rasters: rows of packed bytes, each so many bytes after the one above it.
 
 use fax_rows::Row;
 
 /// How many bytes a row of so many pels has.
+// ensures { result ≡ Coded.packed_len width }
 pub(crate) fn packed_len(width: u32) -> usize {
     (width as usize + 7) / 8
 }
 
 /// Makes all bytes zeros.
+// ensures { bytes.new ≡ replicate (length bytes.old) 0 }
 fn clear(bytes: &mut [u8]) {
     for i in 0..bytes.len() {
         bytes[i] = 0;
@@ -17,12 +20,14 @@ fn clear(bytes: &mut [u8]) {
 /// Writes zeros from a place to another.
 // requires order { at ≤ to }
 // requires within { to ≤ length out.old }
+// ensures { out.new ≡ take at out.old ++ replicate (to - at) 0 ++ drop to out.old }
 pub(crate) fn put_zeros_to(out: &mut [u8], at: usize, to: usize) {
     clear(&mut out[at..to]);
 }
 
 /// Writes a row's bytes at a place that has room for them, and answers where they end.
 // requires { at + Coded.packed_len (length row.now) ≤ length out.old }
+// ensures { Code.IsPutAt (Coded.packed_row row.now) out.old at (Some result) out.new }
 pub(crate) fn put_packed(row: &Row, out: &mut [u8], at: usize) -> usize {
     let to = at + packed_len(row.width());
     row.to_packed(&mut out[at..to]);
@@ -33,6 +38,7 @@ pub(crate) fn put_packed(row: &Row, out: &mut [u8], at: usize) -> usize {
 /// and answers where they end.
 // requires short { Coded.packed_len (length row.now) ≤ stride }
 // requires room { at + stride ≤ length out.old }
+// ensures { Code.IsPutAt (Spec.padded_row stride row.now) out.old at (Some result) out.new }
 pub(crate) fn put_in_stride(row: &Row, stride: usize, out: &mut [u8], at: usize) -> usize {
     let end = put_packed(row, out, at);
     let to = at + stride;
@@ -43,6 +49,7 @@ pub(crate) fn put_in_stride(row: &Row, stride: usize, out: &mut [u8], at: usize)
 /// Writes a row's bytes at a place, and zeros after them up to the stride, where they have room,
 /// and answers where they end.
 // requires { at ≤ length out.old }
+// ensures { Code.IsPutAt (Spec.padded_row stride row.now) out.old at result out.new }
 pub(crate) fn put_padded(row: &Row, stride: usize, out: &mut [u8], at: usize) -> Option<usize> {
     let size = packed_len(row.width()).max(stride);
     if out.len() - at < size {
@@ -53,6 +60,8 @@ pub(crate) fn put_padded(row: &Row, stride: usize, out: &mut [u8], at: usize) ->
 
 /// Whether so many bytes hold a raster of so many rows.
 // requires { 0 < rows }
+// ensures some { result ≡ true → Spec.HoldsRaster len width rows stride }
+// ensures none { result ≡ false → Spec.HoldsRaster len width rows stride → ⊥ }
 pub(crate) fn holds_raster(len: usize, width: u32, rows: u32, stride: usize) -> bool {
     let Some(last) = (rows as usize - 1).checked_mul(stride) else {
         return false;

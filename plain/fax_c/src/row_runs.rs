@@ -1,3 +1,4 @@
+// Made by tools/plain-rust of crates/fax_c/src/row_runs.rt: change that.
 //! The runs of rows, and their changing elements.
 
 use crate::format::{Changes, Runs};
@@ -8,6 +9,8 @@ use fax_walk::Cursor;
 use kit_std::alloc::Global;
 
 /// Writes the runs of rows of a file from a cursor on, as `faxpages_rows` writes their bytes.
+// ensures { Spec.TellsRows runs_of file.now (At (record { page = page; row = row })) rows.old
+//     out.old rows.new out.new told.new result }
 pub fn faxpages_runs(
     alloc: Global,
     file: &[u8],
@@ -21,6 +24,10 @@ pub fn faxpages_runs(
 }
 
 /// Writes the runs of rows of a file from a place on, which is then the one after them.
+// ensures { PlaceSpec.GoesOn runs_of file.now
+//     (record { place = place.old; runs = runs.old; rows = rows.old; out = out.old })
+//     (record { place = place.new; runs = runs.new; rows = rows.new; out = out.new }) told.new
+//     result }
 pub fn faxpages_runs_from(
     alloc: Global,
     file: &[u8],
@@ -34,6 +41,8 @@ pub fn faxpages_runs_from(
 }
 
 /// Writes the changing elements of rows of a file from a cursor on.
+// ensures { Spec.TellsRows changes_of file.now (At (record { page = page; row = row })) rows.old
+//     out.old rows.new out.new told.new result }
 pub fn faxpages_changes(
     alloc: Global,
     file: &[u8],
@@ -48,6 +57,10 @@ pub fn faxpages_changes(
 
 /// Writes the changing elements of rows of a file from a place on, which is then the one after
 /// them.
+// ensures { PlaceSpec.GoesOn changes_of file.now
+//     (record { place = place.old; runs = runs.old; rows = rows.old; out = out.old })
+//     (record { place = place.new; runs = runs.new; rows = rows.new; out = out.new }) told.new
+//     result }
 pub fn faxpages_changes_from(
     alloc: Global,
     file: &[u8],

@@ -1,3 +1,4 @@
+// Made by tools/plain-rust of crates/fax_c/src/rows.rt: change that.
 //! The rows of a file, written one after another.
 
 use crate::filled::{Filled, Stop};
@@ -25,6 +26,8 @@ pub struct FaxRow {
 
 /// Writes the next row of a walk at a place, and answers where it lies.
 // requires { at ≤ length out.old }
+// ensures put { Code.IsPut F.numbers walk.old out.old at result walk.new out.new }
+// ensures room { result ≡ Err NoRoom → length out.old < at + F.MOST }
 fn put_next<F: RowFormat>(walk: &mut Walk, out: &mut [F::Number], at: usize) -> Result<FaxRow, Stop> {
     match walk.next_row() {
         Ok(Some((place, row))) => match F::put(row, out, at) {
@@ -46,6 +49,10 @@ fn put_next<F: RowFormat>(walk: &mut Walk, out: &mut [F::Number], at: usize) -> 
 /// The place, with which the walk began, is then the one after them.
 // requires none { walk.old.given ≡ 0 }
 // requires begun { Code.IsBegunAt walk.old.begun place.old runs.old }
+// ensures filled { Spec.AreRowsFilled F.numbers walk.old.file walk.old.begun rows.old out.old
+//     result rows.new out.new }
+// ensures place { PlaceSpec.IsAfter walk.old.file walk.old.begun result runs.old place.new
+//     runs.new }
 fn fill<F: RowFormat>(
     walk: &mut Walk,
     place: &mut FaxPlace,
@@ -57,7 +64,6 @@ fn fill<F: RowFormat>(
     // walk that has read the row has passed the place, and cannot step back. So the runs after
     // those of the place may change, of the first 65,536: to keep the others would cost a copy of
     // all.
-    fax_walk::laws::beginnings_have_one_tail();
     let mut count = 0;
     let mut used = 0;
     while count < rows.len() {
@@ -92,6 +98,8 @@ fn fill<F: RowFormat>(
 }
 
 /// Writes the rows of a file from a cursor on.
+// ensures { Spec.TellsRows F.numbers file.now (At cursor) rows.old out.old rows.new out.new
+//     told.new result }
 pub(crate) fn fill_at<F: RowFormat>(
     alloc: Global,
     file: &[u8],
@@ -106,6 +114,7 @@ pub(crate) fn fill_at<F: RowFormat>(
 }
 
 /// How the rows end at a row of a page that the file has not, where they end so at its first row.
+// ensures { result ≡ Code.end_at_row end row }
 fn end_at_row(end: End, row: u32) -> End {
     match end {
         End::Proper if row > 0 => End::Outside,
@@ -114,6 +123,8 @@ fn end_at_row(end: End, row: u32) -> End {
 }
 
 /// How the rows end at a cursor, where the file has not its page.
+// ensures page { result ≡ None → HasPage file.now at.page }
+// ensures end { IfSome result (λ end. (read_page file.now at ≡ Err end)) }
 fn end_without_page(file: &[u8], at: Cursor) -> Option<End> {
     let mut pages = Pages::resume(
         file,
@@ -130,6 +141,7 @@ fn end_without_page(file: &[u8], at: Cursor) -> Option<End> {
 
 /// Why a call stops that was refused memory before its first row: it may have been asked for none,
 /// and its page may not be there.
+// ensures { Code.IsRefusedAt file.now at asked result }
 fn stop_at_refusal(file: &[u8], at: Cursor, asked: usize) -> Stop {
     if asked == 0 {
         return Stop::Done;
@@ -142,6 +154,10 @@ fn stop_at_refusal(file: &[u8], at: Cursor, asked: usize) -> Stop {
 
 /// Writes the rows of a file from a place on, which is then the one after them. A place that lacks
 /// runs is told as one outside the file.
+// ensures { PlaceSpec.GoesOn F.numbers file.now
+//     (record { place = place.old; runs = runs.old; rows = rows.old; out = out.old })
+//     (record { place = place.new; runs = runs.new; rows = rows.new; out = out.new }) told.new
+//     result }
 pub(crate) fn fill_from<F: RowFormat>(
     alloc: Global,
     file: &[u8],
@@ -152,7 +168,6 @@ pub(crate) fn fill_from<F: RowFormat>(
     told: &mut FaxTold,
 ) -> u32 {
     // A place that lacks its runs is OUTSIDE: NO_ROOM would have a caller grow `out` for ever.
-    fax_walk::laws::beginnings_have_one_tail();
     let cursor = place.cursor();
     if place.lacks_runs(runs) {
         return Filled::nothing(cursor, Stop::Ended(End::Outside)).tell(told);
@@ -167,6 +182,8 @@ pub(crate) fn fill_from<F: RowFormat>(
 
 /// Writes rows of a file from a cursor on as packed bytes, one after another, at most as many as
 /// `rows` has room for, and there where each lies.
+// ensures { Spec.TellsRows packed_row file.now (At (record { page = page; row = row })) rows.old
+//     out.old rows.new out.new told.new result }
 pub fn faxpages_rows(
     alloc: Global,
     file: &[u8],
@@ -180,6 +197,10 @@ pub fn faxpages_rows(
 }
 
 /// Writes rows of a file from a place on, as `faxpages_rows`; the place is then the one after them.
+// ensures { PlaceSpec.GoesOn packed_row file.now
+//     (record { place = place.old; runs = runs.old; rows = rows.old; out = out.old })
+//     (record { place = place.new; runs = runs.new; rows = rows.new; out = out.new }) told.new
+//     result }
 pub fn faxpages_rows_from(
     alloc: Global,
     file: &[u8],

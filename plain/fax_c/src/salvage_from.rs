@@ -1,3 +1,4 @@
+// Made by tools/plain-rust of crates/fax_c/src/salvage_from.rt: change that.
 //! What is left of a damaged page from a place on, and the rows that are lost.
 
 use crate::filled::{Filled, Stop};
@@ -28,6 +29,7 @@ struct Ahead {
 // requires due { Walk.row_due left.old ≡ row }
 // requires within { row ≤ left.old.here.form.rows }
 // requires few { left.old.here.form.rows ≤ 1000000 }
+// ensures { Code.IsAhead left.old page row result left.new }
 fn next_found(left: &mut RowsFrom, page: u32, row: u32) -> Ahead {
     let mut due = row;
     let mut lost = None;
@@ -56,6 +58,8 @@ fn next_found(left: &mut RowsFrom, page: u32, row: u32) -> Ahead {
 /// Whether so many bytes, of which some are used, have no room for one more row, or a table that
 /// has room for so many stretches has none for one more.
 // requires { used ≤ len }
+// ensures full { result ≡ true → Spec.IsFull len used stride stretches room }
+// ensures room { result ≡ false → Spec.HasRoomForBoth len used stride stretches room }
 fn is_full(len: usize, used: usize, stride: usize, stretches: usize, room: usize) -> bool {
     len - used < stride || stretches >= room
 }
@@ -67,6 +71,8 @@ fn is_full(len: usize, used: usize, stride: usize, stretches: usize, room: usize
 // requires few { left.old.here.form.rows ≤ 1000000 }
 // requires short { Coded.packed_len left.old.here.form.width ≤ stride }
 // requires room { Spec.HasRoomForBoth (length out.old) 0 stride 0 (length lost.old) }
+// ensures { Code.AreRowsFilled page row stride left.old out.old lost.old result left.new out.new
+//     lost.new }
 fn fill_left_from(
     left: &mut RowsFrom,
     page: u32,
@@ -105,6 +111,7 @@ fn fill_left_from(
 /// Why nothing is looked for at a place: no row or no stretch has room, or the page has no row
 /// there.
 // requires { 0 < form.now.rows_per_strip }
+// ensures { Code.IsStopBefore form.now place.now stride len room result }
 fn stop_before_left(
     form: &PageForm,
     place: &FaxPlace,
@@ -129,6 +136,7 @@ fn stop_before_left(
 // requires rows { rows ≡ left.now.here.form.rows }
 // requires cursor { cursor.row ≡ Walk.row_due left.now }
 // requires ends { Code.EndsOrGoesOn left.now }
+// ensures { Code.IsToldAfter left.now cursor place.new runs.old runs.new }
 fn tell_left_after(
     left: &RowsFrom,
     rows: u32,
@@ -148,6 +156,8 @@ fn tell_left_after(
 }
 
 /// How many bits of its strip stand before a place: none where it has no runs.
+// ensures none { place.now.runs ≡ 0 → result ≡ 0 }
+// ensures some { place.now.runs ≢ 0 → result ≡ place.now.bits }
 fn bits_before(place: &FaxPlace) -> u32 {
     if place.runs == 0 { 0 } else { place.bits }
 }
@@ -155,6 +165,9 @@ fn bits_before(place: &FaxPlace) -> u32 {
 /// Writes what is left of a page from a place on, which is then the one after it.
 // requires file { length found.file ≤ 536870911 }
 // requires room { 65536 ≤ length runs.old }
+// ensures { Spec.WritesFrom found.entry.file found.entry.here stride
+//     (record { place = place.old; runs = runs.old; raster = out.old; lost = lost.old }) result
+//     (record { place = place.new; runs = runs.new; raster = out.new; lost = lost.new }) }
 fn salvage_page(
     alloc: Global,
     found: PageLeft,
@@ -188,6 +201,10 @@ fn salvage_page(
 /// Writes what is left of a file's page from a place on, as much as has room, and leaves there the
 /// place after it: the rows that are found, one after another, and the stretches of those that are
 /// lost.
+// ensures { Spec.TellsSalvagedFrom file.now stride
+//     (record { place = place.old; runs = runs.old; raster = out.old; lost = lost.old })
+//     (record { place = place.new; runs = runs.new; raster = out.new; lost = lost.new }) told.old
+//     told.new result }
 pub fn faxpages_salvage_from(
     alloc: Global,
     file: &[u8],

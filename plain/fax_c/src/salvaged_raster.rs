@@ -1,3 +1,4 @@
+// Made by tools/plain-rust of crates/fax_c/src/salvaged_raster.rt: change that.
 //! What is left of a damaged page or strip, in a raster, and the rows that are lost.
 
 use crate::faults::fault_number;
@@ -29,6 +30,7 @@ pub struct FaxLost {
 
 impl FaxLost {
     /// A stretch as it stands in memory of the caller.
+    // ensures { result ≡ stretch_lost stretch.now }
     fn of(stretch: &Stretch) -> Self {
         FaxLost {
             row: stretch.row,
@@ -41,6 +43,7 @@ impl FaxLost {
 /// The stretch that ends before a row of a page, with so many rows more, which are lost for this
 /// cause.
 // requires { Walk.HasRoom lost rows }
+// ensures { result ≡ Walk.longer lost page row rows cause }
 pub(crate) fn longer(lost: Option<Stretch>, page: u32, row: u32, rows: u32, cause: Cause) -> Stretch {
     match lost {
         Some(stretch) => Stretch {
@@ -59,6 +62,7 @@ pub(crate) fn longer(lost: Option<Stretch>, page: u32, row: u32, rows: u32, caus
 /// Writes a stretch that has ended, if one has, after so many others, where it has room, and
 /// answers how many there are now.
 // requires { count ≤ 1000000 }
+// ensures { Code.IsStretchPut ended lost.old count result lost.new }
 pub(crate) fn put_stretch(ended: Option<Stretch>, lost: &mut [FaxLost], count: usize) -> usize {
     let Some(stretch) = ended else {
         return count;
@@ -70,6 +74,8 @@ pub(crate) fn put_stretch(ended: Option<Stretch>, lost: &mut [FaxLost], count: u
 }
 
 /// Whether so many bytes hold so many rows of a raster, each in so many bytes.
+// ensures some { result ≡ true → Spec.HoldsRows len width rows stride }
+// ensures none { result ≡ false → Spec.HoldsRows len width rows stride → ⊥ }
 fn holds_rows(len: usize, width: u32, rows: u32, stride: usize) -> bool {
     if stride < packed_len(width) {
         return false;
@@ -83,6 +89,7 @@ fn holds_rows(len: usize, width: u32, rows: u32, stride: usize) -> bool {
 /// Writes so many rows that are lost into a raster that has room for them, and answers where they
 /// end.
 // requires room { at + rows * stride ≤ length out.old }
+// ensures { IsPutAt (replicate (rows * stride) 0) out.old at (Some result) out.new }
 fn put_lost(rows: u32, stride: usize, out: &mut [u8], at: usize) -> usize {
     let to = at + rows as usize * stride;
     put_zeros_to(out, at, to);
@@ -90,6 +97,7 @@ fn put_lost(rows: u32, stride: usize, out: &mut [u8], at: usize) -> usize {
 }
 
 /// Why no more is written, where so many stretches have room.
+// ensures { Spec.StopsAfterLost stretches room result }
 fn stop_after(stretches: usize, room: usize) -> Stop {
     if stretches <= room {
         Stop::Done
@@ -104,6 +112,7 @@ fn stop_after(stretches: usize, room: usize) -> Stop {
 // requires few { left.old.rows ≤ 1000000 }
 // requires short { Coded.packed_len left.old.width ≤ stride }
 // requires room { left.old.rows * stride ≤ length out.old }
+// ensures { Code.AreAllWritten left.old page stride out.old lost.old result out.new lost.new }
 fn fill_left(
     left: &mut RowsLeft,
     page: u32,
@@ -111,7 +120,6 @@ fn fill_left(
     out: &mut [u8],
     lost: &mut [FaxLost],
 ) -> Filled {
-    fax_walk::laws::rows_are_left_in_one_way();
     let mut row = 0;
     let mut at = 0;
     let mut count = 0;
@@ -143,6 +151,7 @@ fn fill_left(
 /// Tells what was written of rows that nobody counted, and how they end, where all stretches that
 /// are lost had room.
 // requires { Code.IsDoneOrFull filled.now.stop }
+// ensures { Spec.IsLeftTold filled.now end told.new result }
 fn tell_left(filled: &Filled, end: RowsEnd, told: &mut FaxTold) -> u32 {
     if filled.stop.is_no_room() {
         return filled.tell(told);
@@ -154,6 +163,9 @@ fn tell_left(filled: &Filled, end: RowsEnd, told: &mut FaxTold) -> u32 {
 /// lost.
 // requires count { length strip.now ≤ 536870911 }
 // requires limits { IsStripForm form }
+// ensures { Spec.WritesUncounted form (bits form.order strip.now) stride
+//     (record { raster = out.old; lost = lost.old }) (record { raster = out.new; lost = lost.new })
+//     told.new result }
 fn salvage_uncounted(
     alloc: Global,
     strip: &[u8],
@@ -163,7 +175,6 @@ fn salvage_uncounted(
     lost: &mut [FaxLost],
     told: &mut FaxTold,
 ) -> u32 {
-    fax_walk::laws::rows_are_left_in_one_way();
     let nothing = Cursor { page: 0, row: 0 };
     let Ok(mut found) = RowsLeft::of_uncounted(alloc, strip, form) else {
         return Filled::nothing(nothing, Stop::Memory).tell(told);
@@ -178,6 +189,9 @@ fn salvage_uncounted(
 
 /// Writes what is left of a file's page into a raster, and the rows that are lost, and tells the
 /// page's form.
+// ensures { Spec.TellsSalvaged file.now page stride form.old form.new
+//     (record { raster = out.old; lost = lost.old }) (record { raster = out.new; lost = lost.new })
+//     told.new result }
 pub fn faxpages_salvage(
     alloc: Global,
     file: &[u8],
@@ -209,6 +223,10 @@ pub fn faxpages_salvage(
 
 /// Writes what is left of a strip into a raster, and the rows that are lost; where nobody counted
 /// its rows, up to their end.
+// ensures { Spec.TellsStripSalvaged
+//     (record { strip = strip.now; form = form.now; stride = stride })
+//     (record { raster = out.old; lost = lost.old }) (record { raster = out.new; lost = lost.new })
+//     told.old told.new result }
 pub fn faxpages_salvage_strip(
     alloc: Global,
     strip: &[u8],

@@ -1,3 +1,4 @@
+// Made by tools/plain-rust of crates/fax_c/src/status.rt: change that.
 //! How a call ended, by the numbers that `faxpages.h` has.
 
 /// All that was asked for is there.

@@ -1,3 +1,4 @@
+// Made by tools/plain-rust of crates/fax_c/src/strip_form.rt: change that.
 //! The form of a strip with no file around it.
 
 use crate::file_conversion::order_of;
@@ -20,6 +21,7 @@ pub struct FaxStrip {
 }
 
 /// The coding with a number, if one has it.
+// ensures { Code.IsCodingOf number result }
 pub(crate) fn coding_of(number: u32) -> Option<Coding> {
     match number {
         1 => Some(Coding::Mh),
@@ -30,6 +32,8 @@ pub(crate) fn coding_of(number: u32) -> Option<Coding> {
 }
 
 /// Whether a coding has EOLs.
+// ensures some { result ≡ true → coding ≢ Coding.Mmr }
+// ensures none { result ≡ false → coding ≡ Coding.Mmr }
 pub(crate) fn has_eols(coding: Coding) -> bool {
     match coding {
         Coding::Mmr => false,
@@ -39,6 +43,8 @@ pub(crate) fn has_eols(coding: Coding) -> bool {
 
 impl FaxStrip {
     /// The form that these numbers are, if they are one.
+    // ensures { MatchOption result ((form : Form) → Spec.IsStripFormGiven self.now form → ⊥)
+    //     (Spec.IsStripFormGiven self.now) }
     pub(crate) fn form(&self) -> Option<StripForm> {
         let coding = coding_of(self.coding)?;
         let order = order_of(self.order)?;

@@ -1,3 +1,4 @@
+// Made by tools/plain-rust of crates/fax_c/src/strip_part.rt: change that.
 //! Strips of which the first bytes are there, read, where more may follow.
 
 use crate::faults::FaxFault;
@@ -18,6 +19,8 @@ const MOST_BITS: u64 = 8 * MOST_BYTES as u64;
 
 /// Whether a row is due at a place that is after these bytes, and that a strip may reach.
 // requires count { length strip.now ≤ 536870911 }
+// ensures ahead { IsTrue result → Code.IsAhead form strip.now place.now }
+// ensures within { result ≡ false → Code.IsAhead form strip.now place.now → ⊥ }
 fn is_ahead(strip: &[u8], form: StripForm, place: &FaxPlace) -> bool {
     let bits = u64::from(place.bits);
     place.row < form.rows && bits > 8 * strip.len() as u64 && bits <= MOST_BITS
@@ -25,6 +28,8 @@ fn is_ahead(strip: &[u8], form: StripForm, place: &FaxPlace) -> bool {
 
 /// Whether a stop may be another one where more bytes follow.
 // requires count { length strip.now ≤ 536870911 }
+// ensures changes { IsTrue result → Code.StopMayChange form strip.now place.now stop }
+// ensures stays { result ≡ false → Code.StopMayChange form strip.now place.now stop → ⊥ }
 fn may_change(strip: &[u8], form: StripForm, place: &FaxPlace, stop: Stop) -> bool {
     match stop {
         Stop::Ended(
@@ -41,6 +46,10 @@ fn may_change(strip: &[u8], form: StripForm, place: &FaxPlace, stop: Stop) -> bo
 /// Whether rows that nobody counted and that end so at a place may end otherwise where more bytes
 /// follow: with an end mark, where one may stand there.
 // requires count { length strip.now ≤ 536870911 }
+// ensures changes { IsTrue result → Spec.MayChange form.coding
+//     (drop place.now.bits (bits form.order strip.now)) end }
+// ensures stays { result ≡ false → Spec.MayChange form.coding
+//     (drop place.now.bits (bits form.order strip.now)) end → ⊥ }
 fn end_may_change(strip: &[u8], form: StripForm, place: &FaxPlace, end: RowsEnd) -> bool {
     match end {
         RowsEnd::DataEnd | RowsEnd::Fault(StripFault::DataEnds) => true,
@@ -60,6 +69,8 @@ fn end_may_change(strip: &[u8], form: StripForm, place: &FaxPlace, end: RowsEnd)
 
 /// Whether what is told of a strip up to a place may be something else where more bytes follow.
 // requires count { length strip.now ≤ 536870911 }
+// ensures changes { IsTrue result → Code.MayGoOn form strip.now place.now stop end }
+// ensures stays { result ≡ false → Code.MayGoOn form strip.now place.now stop end → ⊥ }
 fn may_go_on(
     strip: &[u8],
     form: StripForm,
@@ -77,6 +88,7 @@ fn may_go_on(
 }
 
 /// Tells what was written, and that more bytes are waited for.
+// ensures { Code.IsMoreTold filled.now told.new result }
 fn tell_more(filled: &Filled, told: &mut FaxTold) -> u32 {
     *told = FaxTold {
         count: filled.count,
@@ -90,6 +102,10 @@ fn tell_more(filled: &Filled, told: &mut FaxTold) -> u32 {
 
 /// Reads rows of a strip of which the first bytes are there into a raster, as `faxpages_strip_rows`
 /// does, where what is told holds whatever bytes follow.
+// ensures { Spec.TellsStripPart
+//     (record { strip = strip.now; form = form.now; stride = stride })
+//     (record { place = place.old; runs = runs.old; raster = out.old })
+//     (record { place = place.new; runs = runs.new; raster = out.new }) told.old told.new result }
 pub fn faxpages_strip_part(
     alloc: Global,
     strip: &[u8],
@@ -100,9 +116,6 @@ pub fn faxpages_strip_part(
     stride: usize,
     told: &mut FaxTold,
 ) -> u32 {
-    fax_page::laws::rows_stay_whatever_follows();
-    fax_page::laws::ends_stay_whatever_follows();
-    fax_bits::laws::bits_stand_by_place();
     if runs.len() < MOST_RUNS {
         return status::NO_OPTIONS;
     }

@@ -1,3 +1,4 @@
+// Made by tools/plain-rust of crates/fax_c/src/strip_report.rt: change that.
 //! What is found in a strip with no file around it, and after its rows.
 
 use crate::faults::FaxFault;
@@ -28,6 +29,7 @@ pub struct FaxStripReport {
 
 impl FaxStripReport {
     /// All rows were read, with these notes.
+    // ensures { result ≡ report_of_notes rows notes }
     fn noted(rows: u32, notes: StripNotes) -> Self {
         FaxStripReport {
             rows,
@@ -40,6 +42,7 @@ impl FaxStripReport {
     }
 
     /// So many rows were read, and then a fault was met.
+    // ensures { result ≡ report_without_notes rows fault }
     fn stopped(rows: u32, fault: FaxFault) -> Self {
         FaxStripReport {
             rows,
@@ -52,6 +55,7 @@ impl FaxStripReport {
     }
 
     /// What was found in rows that nobody counted.
+    // ensures { result ≡ report_of_end found.now.rows found.now.end found.now.notes }
     fn found(found: &UncountedNotes) -> Self {
         match found.end {
             RowsEnd::Marked | RowsEnd::DataEnd => FaxStripReport::noted(found.rows, found.notes),
@@ -64,6 +68,7 @@ impl FaxStripReport {
 }
 
 /// What `faxpages_strip_check` does where nobody counted the rows.
+// ensures { Spec.TellsUncountedReport strip.now form.now report.old report.new result }
 fn check_uncounted(alloc: Global, strip: &[u8], form: &FaxStrip, report: &mut FaxStripReport) -> u32 {
     let Some(form) = uncounted_form(strip, form) else {
         return status::NO_OPTIONS;
@@ -81,6 +86,7 @@ fn check_uncounted(alloc: Global, strip: &[u8], form: &FaxStrip, report: &mut Fa
 }
 
 /// Reads all rows of a strip, and tells what stands after them.
+// ensures { Spec.TellsStripReport strip.now form.now report.old report.new result }
 pub fn faxpages_strip_check(
     alloc: Global,
     strip: &[u8],

@@ -1,3 +1,4 @@
+// Made by tools/plain-rust of crates/fax_c/src/strip_rows.rt: change that.
 //! Strips with no file around them, read.
 
 use crate::filled::{Filled, Stop};
@@ -17,6 +18,8 @@ use kit_std::alloc::Global;
 pub(crate) const MOST_BYTES: usize = 536_870_911;
 
 /// The form in which a strip of so many bytes is read, if these numbers are one.
+// ensures { MatchOption result ((form : Form) → Spec.IsReadable strip.now given.now form → ⊥)
+//     (Spec.IsReadable strip.now given.now) }
 pub(crate) fn readable_form(strip: &[u8], given: &FaxStrip) -> Option<StripForm> {
     if strip.len() > MOST_BYTES {
         return None;
@@ -25,6 +28,7 @@ pub(crate) fn readable_form(strip: &[u8], given: &FaxStrip) -> Option<StripForm>
 }
 
 /// The row before a place: white where it has no runs. `None` where they are not in their room.
+// ensures { Code.IsRowBefore place.now runs.now result }
 pub(crate) fn row_before<'a>(place: &FaxPlace, runs: &'a [u32]) -> Option<RowBefore<'a>> {
     if place.runs == 0 {
         Some(RowBefore::White)
@@ -39,6 +43,7 @@ pub(crate) fn row_before<'a>(place: &FaxPlace, runs: &'a [u32]) -> Option<RowBef
 // requires count { length strip.now ≤ 536870911 }
 // requires limits { IsStripForm form }
 // requires due { place.now.row < form.rows }
+// ensures { Code.IsReaderAt form strip.now place.now runs.now result }
 fn reader_at<'a>(
     alloc: Global,
     strip: &'a [u8],
@@ -57,6 +62,7 @@ fn reader_at<'a>(
 }
 
 /// Why a strip has no row after those that were read.
+// ensures { result ≡ Spec.stop_in_strip page row fault }
 fn stop_of(page: u32, row: u32, fault: Option<StripFault>) -> Stop {
     match fault {
         None => Stop::Ended(End::Proper),
@@ -70,6 +76,7 @@ fn stop_of(page: u32, row: u32, fault: Option<StripFault>) -> Stop {
 
 /// Reads the next row of a strip, and answers why there is none, if there is none.
 // requires { reader.old.fault ≡ None }
+// ensures { Code.IsReadNext page reader.old result reader.new }
 fn read_next(reader: &mut StripReader, page: u32) -> Option<Stop> {
     match reader.advance() {
         Ok(true) => None,
@@ -82,8 +89,8 @@ fn read_next(reader: &mut StripReader, page: u32) -> Option<Stop> {
 // requires no_fault { reader.old.fault ≡ None }
 // requires stride { Coded.packed_len reader.old.form.width ≤ stride }
 // requires some { 0 < stride }
+// ensures { Code.AreStripRowsFilled page stride reader.old out.old result reader.new out.new }
 fn fill_strip(reader: &mut StripReader, page: u32, stride: usize, out: &mut [u8]) -> Filled {
-    fax_bits::laws::bits_stand_by_place();
     let mut count = 0;
     let mut used = 0;
     while out.len() - used >= stride {
@@ -111,6 +118,7 @@ fn fill_strip(reader: &mut StripReader, page: u32, stride: usize, out: &mut [u8]
 /// Tells the place of the row that is due, after so many rows: where they are none, it stays.
 // requires room { 65536 ≤ length runs.old }
 // requires few { length reader.now.bytes ≤ 536870911 }
+// ensures { Code.IsDueTold reader.now count place.old runs.old place.new runs.new }
 fn tell_due(reader: &StripReader, count: usize, place: &mut FaxPlace, runs: &mut [u32]) {
     if count == 0 {
         return;
@@ -125,6 +133,7 @@ fn tell_due(reader: &StripReader, count: usize, place: &mut FaxPlace, runs: &mut
 }
 
 /// Why no row is looked for at a place: none has room, or the strip has no row there.
+// ensures { Code.IsStopBefore form place.now stride room result }
 fn stop_before(form: StripForm, place: &FaxPlace, stride: usize, room: usize) -> Option<Stop> {
     if stride < packed_len(form.width) || room < stride {
         Some(Stop::NoRoom)
@@ -141,6 +150,9 @@ fn stop_before(form: StripForm, place: &FaxPlace, stride: usize, room: usize) ->
 // requires count { length strip.now ≤ 536870911 }
 // requires limits { IsStripForm form }
 // requires room { 65536 ≤ length runs.old }
+// ensures { Spec.ReadsOn form strip.now stride
+//     (record { place = place.old; runs = runs.old; raster = out.old }) result
+//     (record { place = place.new; runs = runs.new; raster = out.new }) }
 pub(crate) fn read_strip(
     alloc: Global,
     strip: &[u8],
@@ -165,6 +177,10 @@ pub(crate) fn read_strip(
 
 /// Reads rows of a strip into a raster, each so many bytes after the one above it, from a place on,
 /// which is then the one after them.
+// ensures { Spec.TellsStripRows
+//     (record { strip = strip.now; form = form.now; stride = stride })
+//     (record { place = place.old; runs = runs.old; raster = out.old })
+//     (record { place = place.new; runs = runs.new; raster = out.new }) told.old told.new result }
 pub fn faxpages_strip_rows(
     alloc: Global,
     strip: &[u8],

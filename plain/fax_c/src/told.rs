@@ -1,3 +1,4 @@
+// Made by tools/plain-rust of crates/fax_c/src/told.rt: change that.
 //! What a call tells.
 
 use crate::faults::FaxFault;

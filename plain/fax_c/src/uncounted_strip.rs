@@ -1,3 +1,4 @@
+// Made by tools/plain-rust of crates/fax_c/src/uncounted_strip.rt: change that.
 //! Rows of a strip that nobody counted.
 
 use crate::faults::FaxFault;
@@ -14,6 +15,9 @@ use fax_walk::End;
 
 /// The form in which a strip of so many bytes is read whose rows nobody counted, if these numbers
 /// are one.
+// ensures { MatchOption result
+//     ((form : Form) → Spec.IsReadableUncounted strip.now given.now form → ⊥)
+//     (Spec.IsReadableUncounted strip.now given.now) }
 pub(crate) fn uncounted_form(strip: &[u8], given: &FaxStrip) -> Option<StripForm> {
     if given.rows != 0 {
         return None;
@@ -27,6 +31,11 @@ pub(crate) fn uncounted_form(strip: &[u8], given: &FaxStrip) -> Option<StripForm
 
 /// The form in which a strip is read, of counted rows or of such as nobody counted, if these
 /// numbers are one.
+// ensures form { MatchOption result
+//     ((form : Form) → Spec.IsReadableIn strip.now given.now form → ⊥)
+//     (Spec.IsReadableIn strip.now given.now) }
+// ensures limits { IfSome result IsStripForm }
+// ensures count { IfSome result (λ form. length strip.now ≤ 536870911) }
 pub(crate) fn form_of_rows(strip: &[u8], given: &FaxStrip) -> Option<StripForm> {
     match readable_form(strip, given) {
         Some(form) => Some(form),
@@ -35,6 +44,7 @@ pub(crate) fn form_of_rows(strip: &[u8], given: &FaxStrip) -> Option<StripForm> 
 }
 
 /// The number that a call answers where rows end so that nobody counted.
+// ensures { result ≡ Told.end_status end }
 pub(crate) fn end_status(end: RowsEnd) -> u32 {
     match end {
         RowsEnd::Marked => status::END,
@@ -44,6 +54,7 @@ pub(crate) fn end_status(end: RowsEnd) -> u32 {
 }
 
 /// Goes on by so many bits, or past all of them where there are fewer.
+// ensures { source.new.left ≡ drop bits source.old.left }
 fn go_on(source: &mut BitSource, bits: u64) {
     let left = source.remaining();
     if bits < left {
@@ -55,6 +66,7 @@ fn go_on(source: &mut BitSource, bits: u64) {
 
 /// The bits of a strip from a place on.
 // requires count { length strip.now ≤ 536870911 }
+// ensures { result.left ≡ drop place.now.bits (bits form.order strip.now) }
 pub(crate) fn source_at<'a>(strip: &'a [u8], form: StripForm, place: &FaxPlace) -> BitSource<'a> {
     let mut source = BitSource::new(strip, form.order);
     go_on(&mut source, u64::from(place.bits));
@@ -63,6 +75,7 @@ pub(crate) fn source_at<'a>(strip: &'a [u8], form: StripForm, place: &FaxPlace) 
 
 /// What stopped the rows of a strip, where that is the strip itself: a fault is in the way of the
 /// next row, or there is none.
+// ensures { result ≡ Spec.met_in_strip stop }
 fn met_in_strip(stop: Stop) -> Option<Option<StripFault>> {
     match stop {
         Stop::Ended(End::Proper) => Some(None),
@@ -79,6 +92,7 @@ fn met_in_strip(stop: Stop) -> Option<Option<StripFault>> {
 /// How rows end that nobody counted and that are read up to a place, where the strip itself stopped
 /// them.
 // requires count { length strip.now ≤ 536870911 }
+// ensures { Spec.IsEndAt given.now form strip.now place.now stop result }
 pub(crate) fn end_at(
     strip: &[u8],
     given: &FaxStrip,
@@ -97,6 +111,7 @@ pub(crate) fn end_at(
 }
 
 /// Tells what was written of rows that end so at a place, and answers how the call ended.
+// ensures { Spec.IsRowsEndTold filled.now place.now end told.new result }
 pub(crate) fn tell_end(filled: &Filled, place: &FaxPlace, end: RowsEnd, told: &mut FaxTold) -> u32 {
     *told = FaxTold {
         count: filled.count,
@@ -110,6 +125,7 @@ pub(crate) fn tell_end(filled: &Filled, place: &FaxPlace, end: RowsEnd, told: &m
 
 /// Tells what was written, and how the rows end at a place, if that is to be told, and answers how
 /// the call ended.
+// ensures { Spec.IsReadTold filled.now place.now end told.new result }
 pub(crate) fn tell_read(
     filled: &Filled,
     place: &FaxPlace,

@@ -1,3 +1,4 @@
+// Made by tools/plain-rust of crates/fax_c/src/writing.rt: change that.
 //! Files that are written page by page, in memory of the caller.
 
 use kit_std::prelude::Vec;
@@ -33,11 +34,15 @@ pub(crate) const MOST_BYTES: usize = 268_435_456;
 pub(crate) const MOST_PAGES: u32 = 65_535;
 
 /// Whether a fraction is one of numbers above 0.
+// ensures some { result ≡ true → IsGoodRational (numerator, denominator) }
+// ensures none { result ≡ false → IsGoodRational (numerator, denominator) → ⊥ }
 fn is_good(numerator: u32, denominator: u32) -> bool {
     numerator > 0 && denominator > 0
 }
 
 /// The form that these numbers are, if a page can be written in it.
+// ensures { MatchOption result ((form : Form) → Spec.IsFormGiven given.now form → ⊥)
+//     (Spec.IsFormGiven given.now) }
 fn page_form_of(given: &FaxForm) -> Option<PageForm> {
     let coding = coding_of(given.coding)?;
     let order = order_of(given.order)?;
@@ -80,6 +85,8 @@ fn page_form_of(given: &FaxForm) -> Option<PageForm> {
 // requires limits { IsPageForm form.now }
 // requires some_k { 0 < k }
 // requires raster { Raster.HoldsRaster (length raster.now) form.now.width form.now.rows stride }
+// ensures { IfOk result (λ strips. contents strips.items
+//     ≡ Raster.page_strips form.now k stride raster.now) }
 fn code_strips(
     alloc: Global,
     form: &PageForm,
@@ -100,6 +107,8 @@ fn code_strips(
 }
 
 /// Whether a page can be added to a file that is written so far.
+// ensures some { result ≡ true → Spec.IsWriting written.now }
+// ensures none { result ≡ false → Spec.IsWriting written.now → ⊥ }
 fn is_writing(written: &FaxWritten) -> bool {
     // A link before byte 4 is NO_OPTIONS, since the page's directory would be written over the
     // header. That the numbers are those that a call told is the caller's to see to.
@@ -119,6 +128,8 @@ fn is_writing(written: &FaxWritten) -> bool {
 }
 
 /// Whether a file that is written so far has at most so many bytes.
+// ensures held { result ≡ true → Spec.IsHeld written.now room }
+// ensures more { result ≡ false → Spec.IsHeld written.now room → ⊥ }
 fn is_held(written: &FaxWritten, room: usize) -> bool {
     written.added == 0 || written.len <= room
 }
@@ -126,6 +137,8 @@ fn is_held(written: &FaxWritten, room: usize) -> bool {
 /// Whether the last page of a file that is written so far, if there is one, says its total.
 // requires writing { Spec.IsWriting written.now }
 // requires held { Spec.IsHeld written.now (length file.now) }
+// ensures some { result ≡ true → Spec.IsTotalSaid written.now file.now }
+// ensures none { result ≡ false → Spec.IsTotalSaid written.now file.now → ⊥ }
 fn is_total_said(written: &FaxWritten, file: &[u8]) -> bool {
     // The numbers of a caller are believed but for this, since a mistake here would give pages that
     // contradict each other.
@@ -135,6 +148,7 @@ fn is_total_said(written: &FaxWritten, file: &[u8]) -> bool {
 /// Where a file that is written goes on, and where the offset of the next directory stands: after
 /// its header, or after the pages that were added.
 // requires { Spec.IsWriting written.now }
+// ensures { result ≡ Code.place_of written.now }
 fn place_of(written: &FaxWritten) -> (u32, u32) {
     if written.added == 0 {
         (8, 4)
@@ -144,12 +158,19 @@ fn place_of(written: &FaxWritten) -> (u32, u32) {
 }
 
 /// Whether so many bytes have room after a place.
+// ensures some { result ≡ true → start + count ≤ len }
+// ensures none { result ≡ false → len < start + count }
 fn has_room(len: usize, start: usize, count: usize) -> bool {
     start <= len && count <= len - start
 }
 
 /// Writes the header of a file, where no page was added.
 // requires { (Code.place_of written.now).0 ≤ length file.old }
+// ensures front { take (Code.place_of written.now).0 file.new
+//     ≡ (Spec.file_so_far written.now file.old).bytes }
+// ensures rest { drop (Code.place_of written.now).0 file.new
+//     ≡ drop (Code.place_of written.now).0 file.old }
+// ensures len { length file.new ≡ length file.old }
 fn put_header(file: &mut [u8], written: &FaxWritten) {
     if written.added == 0 {
         put_bytes(file, 0, &[b'I', b'I', 42, 0, 0, 0, 0, 0]);
@@ -160,6 +181,9 @@ fn put_header(file: &mut [u8], written: &FaxWritten) {
 /// directory, where the last page has the offset of the next one.
 // requires link { link + 4 ≤ start }
 // requires room { start + length page.now ≤ length file.old }
+// ensures { file.new ≡ take link (take start file.old) ++ four directory
+//     ++ drop (link + 4) (take start file.old) ++ page.now
+//     ++ drop (start + length page.now) file.old }
 fn put_page(file: &mut [u8], start: usize, link: usize, page: &[u8], directory: u32) {
     put_bytes(file, start, page);
     put_four(file, link, directory);
@@ -172,6 +196,9 @@ fn put_page(file: &mut [u8], start: usize, link: usize, page: &[u8], directory: 
 // requires raster { Raster.HoldsRaster (length raster.now) form.now.width form.now.rows stride }
 // requires writing { Spec.IsWriting written.old }
 // requires held { Spec.IsHeld written.old (length file.old) }
+// ensures { Spec.AddsPage
+//     (record { form = form.now; k = k; raster = raster.now; stride = stride }) file.old file.new
+//     written.old written.new result }
 fn add_page(
     alloc: Global,
     form: &PageForm,
@@ -208,6 +235,9 @@ fn add_page(
 }
 
 /// Adds a page of the form that these numbers are, if it can be added, and answers how that ended.
+// ensures { Spec.TellsPageAdded
+//     (record { form = form.now; k = k; raster = raster.now; stride = stride }) file.old file.new
+//     written.old written.new result }
 fn add_given(
     alloc: Global,
     form: &FaxForm,
@@ -237,6 +267,12 @@ fn add_given(
 
 /// Codes the rows of a raster as a page, and adds it to a file of the caller, which is then a whole
 /// file of the pages so far, where it has room.
+// ensures told { Spec.TellsPageAdded
+//     (record { form = form.now; k = k; raster = raster.now; stride = stride }) file.old file.new
+//     written.old written.new result }
+// ensures pages { AddsToPages
+//     (record { form = form.now; k = k; raster = raster.now; stride = stride }) file.old file.new
+//     written.old written.new result }
 pub fn faxpages_add_page(
     alloc: Global,
     form: &FaxForm,

@@ -1,3 +1,4 @@
+// Made by tools/plain-rust of crates/fax_files/src/chain.rt: change that.
 //! The chain of a file's directories, read with a search for a loop that goes along.
 //!
 //! The search takes two steps for each directory that is handed out (Floyd's algorithm), so that
@@ -11,7 +12,6 @@ use kit_std::marker::Model;
 /// A place on the loop of a chain, and the loop's length.
 #[derive(Clone, Copy)]
 struct Round {
-    start: u64,
     len: u64,
 }
 
@@ -24,6 +24,7 @@ enum Search {
 }
 
 /// The offset after the directory at an offset, or none where no directory stands.
+// ensures { result ≡ Spec.onward tiff.now.head.endian tiff.now.file offset }
 fn onward(tiff: &Tiff, offset: u32) -> Option<u32> {
     if offset == 0 {
         return None;
@@ -35,18 +36,21 @@ fn onward(tiff: &Tiff, offset: u32) -> Option<u32> {
 }
 
 /// The offset due after the one at which a directory stands, and 0, which is none, elsewhere.
+// ensures { result ≡ unwrap_or (Spec.onward tiff.now.head.endian tiff.now.file offset) 0 }
 fn due_after(tiff: &Tiff, offset: u32) -> u32 {
     onward(tiff, offset).unwrap_or(0)
 }
 
 /// Computes nothing: the offsets of a chain differ, and each is a number of four bytes, not 0.
 // requires { file.now ≡ tiff.now.file }
-fn has_few_pages(tiff: &Tiff, file: &[u8]) {
+// ensures { Spec.HasFewPages tiff.now }
+fn has_few_pages(tiff: &Tiff, _file: &[u8]) {
     let _first = tiff.first();
 }
 
 /// The offset due after the first directories of a chain.
 // requires { (i : ℕ) → i < pages → LeadsOn tiff.now i }
+// ensures { result ≡ place tiff.now pages }
 fn due_after_pages(tiff: &Tiff, pages: u64) -> u32 {
     let mut due = tiff.first();
     for _page in 0..pages {
@@ -57,6 +61,8 @@ fn due_after_pages(tiff: &Tiff, pages: u64) -> u32 {
 
 /// The first page of which the offset comes again after the length of the loop.
 // requires { Spec.IsRound tiff.now round.start round.len }
+// ensures turn { Spec.IsTurn tiff.now round.len result }
+// ensures early { result ≤ round.start }
 fn first_turn(tiff: &Tiff, round: Round) -> u64 {
     let mut ahead = due_after_pages(tiff, round.len);
     let mut before = tiff.first();
@@ -75,14 +81,15 @@ fn first_turn(tiff: &Tiff, round: Round) -> u64 {
 // requires limit { start < 2 ^ 32 }
 // requires back { place tiff.now (start + start) ≡ place tiff.now start }
 // requires on { (i : ℕ) → i < start + start → LeadsOn tiff.now i }
-fn round_from(tiff: &Tiff, start: u64, kept: u32) -> Round {
+// ensures { Spec.IsRound tiff.now result.start result.len }
+fn round_from(tiff: &Tiff, _start: u64, kept: u32) -> Round {
     let mut due = due_after(tiff, kept);
     let mut len: u64 = 1;
     while due != kept {
         due = due_after(tiff, due);
         len += 1;
     }
-    Round { start, len }
+    Round { len }
 }
 
 /// The page at which the chain turns back, where a place is met again after as many steps.
@@ -91,6 +98,7 @@ fn round_from(tiff: &Tiff, start: u64, kept: u32) -> Round {
 // requires limit { start < 2 ^ 32 }
 // requires back { place tiff.now (start + start) ≡ place tiff.now start }
 // requires on { (i : ℕ) → i < start + start → LeadsOn tiff.now i }
+// ensures { Some result ≡ Spec.turn_of tiff.now }
 fn turning_from(tiff: &Tiff, start: u64, kept: u32) -> u32 {
     has_few_pages(tiff, tiff.bytes());
     let round = round_from(tiff, start, kept);
@@ -102,6 +110,7 @@ fn turning_from(tiff: &Tiff, start: u64, kept: u32) -> u32 {
 // requires search { Spec.IsSearch tiff.now given search }
 // requires due { due ≡ place tiff.now (given + 1) }
 // requires few { given + 1 < 2 ^ 32 }
+// ensures { Spec.IsSearch tiff.now (given + 1) result }
 fn search_on(tiff: &Tiff, search: Search, given: u32, due: u32) -> Search {
     let Search::Running(fast) = search else {
         return search;
@@ -120,6 +129,7 @@ fn search_on(tiff: &Tiff, search: Search, given: u32, due: u32) -> Search {
 }
 
 /// Whether it is known that the chain turns back after so many directories.
+// ensures { result ≡ Spec.turns_at search given }
 fn turns_at(search: Search, given: u32) -> bool {
     match search {
         Search::Known(Some(turn)) => turn == given,
@@ -143,6 +153,7 @@ impl<'a> Model for Chain<'a> {}
 
 impl<'a> Chain<'a> {
     /// A reader of the directories of a file, before the first one. Nothing is read yet.
+    // ensures { result ≡ record { tiff = tiff.entry; given = 0 } }
     pub fn new(tiff: Tiff<'a>) -> Self {
         has_few_pages(&tiff, tiff.bytes());
         let due = tiff.first();
@@ -155,6 +166,7 @@ impl<'a> Chain<'a> {
     }
 
     /// The same reader once more.
+    // ensures { result ≡ self.now }
     pub fn again(&self) -> Self {
         Chain {
             tiff: self.tiff.again(),
@@ -165,6 +177,7 @@ impl<'a> Chain<'a> {
     }
 
     /// How many directories were handed out.
+    // ensures { result ≡ self.now.given }
     pub fn given(&self) -> u32 {
         self.given
     }
@@ -175,6 +188,8 @@ impl<'a> Chain<'a> {
     ///
     /// `DirectoryLoop` where the offset that is due was handed out before, `DirectoryOutside`
     /// where no whole directory stands there.
+    // ensures answer { result ≡ due_answer self.now }
+    // ensures file { IfOk result (λ found. IfSome found (IsDirectoryOf self.now.tiff)) }
     pub fn due(&self) -> Result<Option<Directory<'a>>, FileFault> {
         if self.due == 0 {
             return Ok(None);
@@ -190,6 +205,9 @@ impl<'a> Chain<'a> {
     /// # Errors
     ///
     /// As `due`, from then on.
+    // ensures answer { result ≡ due_answer self.old }
+    // ensures file { IfOk result (λ found. IfSome found (IsDirectoryOf self.old.tiff)) }
+    // ensures counted { self.new ≡ after_answer self.old result }
     pub fn next(&mut self) -> Result<Option<Directory<'a>>, FileFault> {
         let answer = self.due()?;
         if let Some(directory) = &answer {

@@ -1,3 +1,4 @@
+// Made by tools/plain-rust of crates/fax_files/src/directory.rt: change that.
 //! The directory of a page.
 
 use crate::fields::{Fields, FirstEntries};
@@ -18,6 +19,7 @@ impl<'a> Model for Directory<'a> {}
 
 /// The number of entries in the directory at an offset.
 // requires { offset + 2 ≤ length file.now.bytes.now }
+// ensures { result ≡ count_of file.now.endian file.now.bytes.now offset }
 pub(crate) fn entry_count(file: &File, offset: usize) -> u16 {
     file.u16_at(offset)
 }
@@ -25,6 +27,9 @@ pub(crate) fn entry_count(file: &File, offset: usize) -> u16 {
 impl<'a> Directory<'a> {
     /// The directory at an offset.
     // requires { Code.IsWholeDirectory file.endian file.bytes.now offset }
+    // ensures endian { result.endian ≡ file.entry.endian }
+    // ensures file { result.file ≡ file.entry.bytes.now }
+    // ensures offset { result.offset ≡ offset }
     pub(crate) fn new(file: File<'a>, offset: usize) -> Self {
         Directory {
             bytes: file.bytes,
@@ -34,6 +39,7 @@ impl<'a> Directory<'a> {
     }
 
     /// The same directory once more.
+    // ensures { result ≡ self.now }
     pub(crate) fn again(&self) -> Self {
         Directory {
             bytes: self.bytes,
@@ -43,6 +49,8 @@ impl<'a> Directory<'a> {
     }
 
     /// The file that it stands in.
+    // ensures endian { result.endian ≡ self.now.endian }
+    // ensures file { result.bytes.now ≡ self.now.file }
     pub(crate) fn file(&self) -> File<'a> {
         File {
             bytes: self.bytes,
@@ -51,6 +59,7 @@ impl<'a> Directory<'a> {
     }
 
     /// The first entry of each tag of `TAGS`. It goes from the last entry to the first.
+    // ensures { AreFieldsOf self.now result.entries }
     pub(crate) fn first_entries(&self) -> FirstEntries {
         // From the last to the first, so that the first of a tag is the one that stays. A stranger
         // can chain many directories of 65,535 entries over one another, so one pass finds all.
@@ -64,6 +73,7 @@ impl<'a> Directory<'a> {
     }
 
     /// The offset of the next directory, in bytes, or 0 at the chain's end.
+    // ensures { result ≡ Spec.next_offset self.now.endian self.now.file self.now.offset }
     pub fn next_offset(&self) -> u32 {
         let file = self.file();
         let count = entry_count(&file, self.offset) as usize;
@@ -73,17 +83,25 @@ impl<'a> Directory<'a> {
     /// The form of the page, or its first fault, by the fields in the order of their checks: width,
     /// rows, bits of a sample, compression, photometric interpretation, fill order, samples of a
     /// pel, rows of a strip, T.4 options, offsets and byte counts of the strips (TIFF 6.0).
+    // ensures exact { result ≡ form_of self.now }
+    // ensures limits { IfOk result IsPageForm }
     pub fn page(&self) -> Result<PageForm, FileFault> {
         Ok(self.page_and_strips()?.0)
     }
 
     /// The form of the page, as `page` has it, and the places of its strips, by one pass over the
     /// entries.
+    // ensures form { IfOk result (λ page. form_of self.now ≡ Ok page.0) }
+    // ensures fault { IfErr result (λ fault. form_of self.now ≡ Err fault) }
+    // ensures limits { IfOk result (λ page. IsPageForm page.0) }
+    // ensures directory { IfOk result (λ page. page.1.directory ≡ self.now) }
+    // ensures count { IfOk result (λ page. page.1.count ≡ page.0.strips) }
     pub fn page_and_strips(&self) -> Result<(PageForm, Strips<'a>), FileFault> {
         read_page(&Fields::new(self))
     }
 
     /// Whether the tags of the entries ascend, none standing twice (TIFF 6.0, section 2).
+    // ensures { result ≡ Spec.ascend (entries_of self.now) }
     pub fn in_order(&self) -> bool {
         let file = self.file();
         let count = entry_count(&file, self.offset);

@@ -1,3 +1,4 @@
+// Made by tools/plain-rust of crates/fax_files/src/entries.rt: change that.
 //! The entries of a directory and their values (TIFF 6.0, section 2).
 
 use crate::FileFault;
@@ -21,16 +22,20 @@ impl Model for Entry {}
 
 impl Entry {
     /// The tag of the field.
+    // ensures { result ≡ self.now.tag }
     pub fn tag(&self) -> u16 {
         self.tag
     }
 
     /// Whether the values are SHORT or LONG.
+    // ensures { result ≡ is_integer self.now }
     fn is_integer(&self) -> bool {
         self.kind == SHORT || self.kind == LONG
     }
 
     /// How many bytes a value takes, where it is SHORT, LONG or RATIONAL.
+    // ensures value { result ≡ Spec.value_len self.now }
+    // ensures bound { result ≤ 8 }
     fn value_len(&self) -> usize {
         match self.kind {
             SHORT => 2,
@@ -43,6 +48,7 @@ impl Entry {
 impl<'a> File<'a> {
     /// The entry of twelve bytes at a place.
     // requires { place + 12 ≤ length self.now.bytes.now }
+    // ensures { result ≡ entry_at self.now.endian self.now.bytes.now place }
     pub fn entry_at(&self, place: usize) -> Entry {
         Entry {
             tag: self.u16_at(place),
@@ -54,6 +60,7 @@ impl<'a> File<'a> {
 
     /// Where the values of an entry stand.
     // requires { entry.now.place + 4 ≤ length self.now.bytes.now }
+    // ensures { result ≡ Spec.values_place self.now.endian self.now.bytes.now entry.now }
     fn values_place(&self, entry: &Entry) -> usize {
         // The entry's own count decides whether its values stand in it, also where fewer are
         // needed. Only the needed ones have to lie in the file.
@@ -66,6 +73,7 @@ impl<'a> File<'a> {
 
     /// Whether an entry has at least `n` values, SHORT or LONG, and the first `n` lie in the file.
     // requires { entry.now.place + 4 ≤ length self.now.bytes.now }
+    // ensures { result ≡ Spec.has_integers self.now.endian self.now.bytes.now entry.now n }
     pub fn has_integers(&self, entry: &Entry, n: u32) -> bool {
         entry.is_integer()
             && n <= entry.count
@@ -80,6 +88,7 @@ impl<'a> File<'a> {
     // requires place { entry.now.place + 4 ≤ length self.now.bytes.now }
     // requires there { IsTrue
     //     (Spec.has_integers self.now.endian self.now.bytes.now entry.now (i + 1)) }
+    // ensures { result ≡ Spec.value_at self.now.endian self.now.bytes.now entry.now i }
     pub fn value_at(&self, entry: &Entry, i: u32) -> u32 {
         let place = self.values_place(entry) + i as usize * entry.value_len();
         if entry.kind == SHORT {
@@ -91,6 +100,7 @@ impl<'a> File<'a> {
 
     /// The value of a scalar.
     // requires { entry.now.place + 4 ≤ length self.now.bytes.now }
+    // ensures { result ≡ first_value self.now.endian self.now.bytes.now entry.now }
     pub fn scalar(&self, entry: &Entry) -> Result<u32, FileFault> {
         if !self.has_integers(entry, 1) {
             return Err(FileFault::BadField(entry.tag));
@@ -100,6 +110,8 @@ impl<'a> File<'a> {
 
     /// An entry's fraction, where it has one whose numbers are above 0.
     // requires { entry.now.place + 4 ≤ length self.now.bytes.now }
+    // ensures exact { result ≡ good_rational self.now.endian self.now.bytes.now entry.now }
+    // ensures good { IfSome result IsGoodRational }
     pub fn good_rational(&self, entry: &Entry) -> Option<(u32, u32)> {
         let place = self.values_place(entry);
         if entry.kind != RATIONAL || entry.count < 1 || !is_inside(self.bytes, place, 8) {

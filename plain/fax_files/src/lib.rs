@@ -1,3 +1,4 @@
+// Made by tools/plain-rust of crates/fax_files/src/lib.rt: change that.
 //! TIFF files of fax pages: header, directories, fields, and the bytes of a strip (TIFF 6.0).
 #![forbid(unsafe_code)]
 
@@ -5,7 +6,6 @@ mod chain;
 mod directory;
 mod entries;
 mod fields;
-pub mod laws;
 mod numbers;
 mod page;
 mod pbm;
@@ -77,6 +77,7 @@ pub enum FileFault {
 
 impl FileFault {
     /// The fault's own name.
+    // ensures { result.now ≡ Names.fault_name (Cause.File self) }
     fn name(self) -> &'static str {
         match self {
             FileFault::ShortHeader => "ShortHeader",
@@ -94,6 +95,7 @@ impl FileFault {
     }
 
     /// The tag of the field at fault, where it has one.
+    // ensures { result ≡ Names.fault_tag (Cause.File self) }
     fn tag(self) -> Option<u16> {
         match self {
             FileFault::MissingField(tag)
@@ -122,6 +124,8 @@ pub enum Cause {
 
 impl Cause {
     /// The fault's name, and the tag of the field at fault where it has one.
+    // ensures name { result.0.now ≡ Names.fault_name self.now }
+    // ensures tag { result.1 ≡ Names.fault_tag self.now }
     pub fn name(&self) -> (&'static str, Option<u16>) {
         match self {
             Cause::File(fault) => (fault.name(), fault.tag()),
@@ -131,6 +135,7 @@ impl Cause {
 }
 
 /// The own name of a strip's fault.
+// ensures { result.now ≡ Names.fault_name (Cause.Strip fault) }
 fn strip_name(fault: StripFault) -> &'static str {
     match fault {
         StripFault::DataEnds => "DataEnds",
@@ -176,6 +181,9 @@ impl PageForm {
     /// (TIFF 6.0, RowsPerStrip).
     // requires limits { IsPageForm self.now }
     // requires strip { s < self.now.strips }
+    // ensures exact { result ≡ form_of_strip self.now s }
+    // ensures limits { IsStripForm result }
+    // ensures begins { s * self.now.rows_per_strip < self.now.rows }
     pub fn strip_form(&self, s: u32) -> StripForm {
         StripForm {
             coding: self.coding,

@@ -1,3 +1,4 @@
+// Made by tools/plain-rust of crates/fax_files/src/numbers.rt: change that.
 //! Numbers in a file (TIFF 6.0, section 2).
 
 use crate::Endian;
@@ -11,6 +12,7 @@ pub(crate) struct File<'a> {
 }
 
 /// Whether the `len` bytes from a place on lie in the file.
+// ensures { result ≡ lies_inside file.now place len }
 pub(crate) fn is_inside(file: &[u8], place: usize, len: usize) -> bool {
     place <= file.len() && len <= file.len() - place
 }
@@ -18,6 +20,7 @@ pub(crate) fn is_inside(file: &[u8], place: usize, len: usize) -> bool {
 impl<'a> File<'a> {
     /// The number of two bytes at a place.
     // requires { place + 2 ≤ length self.now.bytes.now }
+    // ensures { result ≡ number_at self.now.endian 2 self.now.bytes.now place }
     pub fn u16_at(&self, place: usize) -> u16 {
         let bytes = &self.bytes[place..];
         match self.endian {
@@ -28,6 +31,7 @@ impl<'a> File<'a> {
 
     /// The number of four bytes at a place.
     // requires { place + 4 ≤ length self.now.bytes.now }
+    // ensures { result ≡ number_at self.now.endian 4 self.now.bytes.now place }
     pub fn u32_at(&self, place: usize) -> u32 {
         let bytes = &self.bytes[place..];
         match self.endian {

@@ -1,3 +1,4 @@
+// Made by tools/plain-rust of crates/fax_files/src/page.rt: change that.
 //! The form of a page, from the fields of its directory (TIFF 6.0; RFC 2306).
 
 use crate::entries::Entry;
@@ -32,6 +33,11 @@ struct Resolution {
 impl Model for Resolution {}
 
 /// The form of a page and the places of its strips, or its first fault.
+// ensures form { IfOk result (λ page. form_of fields.now ≡ Ok page.0) }
+// ensures fault { IfErr result (λ fault. form_of fields.now ≡ Err fault) }
+// ensures limits { IfOk result (λ page. IsPageForm page.0) }
+// ensures directory { IfOk result (λ page. page.1.directory ≡ fields.now) }
+// ensures count { IfOk result (λ page. page.1.count ≡ page.0.strips) }
 pub(crate) fn read_page<'a>(fields: &Fields<'_, 'a>) -> Result<(PageForm, Strips<'a>), FileFault> {
     let form = read_form(fields)?;
     let offsets = strip_field(fields, STRIP_OFFSETS, form.strips)?;
@@ -41,6 +47,9 @@ pub(crate) fn read_page<'a>(fields: &Fields<'_, 'a>) -> Result<(PageForm, Strips
 }
 
 /// The form that a page's fields say, in the order of their checks.
+// ensures exact { result
+//     ≡ Spec.form_in fields.now.endian fields.now.file (entries_of fields.now) }
+// ensures limits { IfOk result IsPageForm }
 fn read_form(fields: &Fields) -> Result<PageForm, FileFault> {
     use Limits::{AboveZero, Between};
     use FieldRefusal::{BadField, OutOfLimits, Unsupported};
@@ -73,6 +82,9 @@ fn read_form(fields: &Fields) -> Result<PageForm, FileFault> {
 }
 
 /// T4Options, which are looked at in T.4 alone, and 0 in T.6.
+// ensures { result ≡ (if compression == 4 then (Ok 0)
+//     else (Entries.scalar fields.now.endian fields.now.file (entries_of fields.now)
+//     Tags.T4_OPTIONS (Some 0) (λ _. true) BadField)) }
 fn read_options(fields: &Fields, compression: u32) -> Result<u32, FileFault> {
     // T6Options is never looked at: what its one bit allows, uncompressed mode, begins with an
     // extension code, which is refused where it stands.
@@ -83,6 +95,7 @@ fn read_options(fields: &Fields, compression: u32) -> Result<u32, FileFault> {
 }
 
 /// How the rows are coded, by Compression and T4Options.
+// ensures { result ≡ (if compression == 4 then Mmr else (if options % 2 == 1 then Mr else Mh)) }
 fn coding_of(compression: u32, options: u32) -> Coding {
     if compression == COMPRESSION_T6 {
         Coding::Mmr
@@ -94,6 +107,7 @@ fn coding_of(compression: u32, options: u32) -> Coding {
 }
 
 /// Which bit of a byte comes first, by FillOrder.
+// ensures { result ≡ (if order == 2 then LsbFirst else MsbFirst) }
 fn order_of(order: u32) -> FillOrder {
     match order {
         2 => FillOrder::LsbFirst,
@@ -102,6 +116,9 @@ fn order_of(order: u32) -> FillOrder {
 }
 
 /// The resolution of a page: 204 by 196 dots an inch where its fields have no good one.
+// ensures exact { result
+//     ≡ Steps.resolution_in fields.now.endian fields.now.file (entries_of fields.now) }
+// ensures good { Steps.IsGoodResolution result }
 fn page_resolution(fields: &Fields) -> Resolution {
     let x = fields.rational_of(X_RESOLUTION);
     let y = fields.rational_of(Y_RESOLUTION);
@@ -126,6 +143,12 @@ fn page_resolution(fields: &Fields) -> Resolution {
 
 /// The entry of a tag, which has to have a value for each strip.
 // requires { IsTrue (is_sought tag) }
+// ensures exact { result
+//     ≡ Steps.strip_field fields.now.endian fields.now.file (entries_of fields.now) tag strips }
+// ensures found { IfOk result (λ entry. Entries.field (entries_of fields.now) tag ≡ Some entry) }
+// ensures inside { IfOk result (λ entry. entry.place + 4 ≤ length fields.now.file) }
+// ensures enough { IfOk result (λ entry.
+//     IsTrue (Entries.has_integers fields.now.endian fields.now.file entry strips)) }
 fn strip_field(fields: &Fields, tag: u16, strips: u32) -> Result<Entry, FileFault> {
     let entry = fields.needed(tag)?;
     if !fields.file().has_integers(&entry, strips) {

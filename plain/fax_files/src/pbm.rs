@@ -1,3 +1,4 @@
+// Made by tools/plain-rust of crates/fax_files/src/pbm.rt: change that.
 //! Raw PBM, one image after another (the netpbm format, P4): read as slices of the input, and
 //! written.
 
@@ -28,6 +29,7 @@ pub enum PbmFault {
 
 impl PbmFault {
     /// The fault's name.
+    // ensures { result.now ≡ pbm_fault_name self }
     pub fn name(self) -> &'static str {
         match self {
             PbmFault::BadHeader => "BadHeader",
@@ -38,26 +40,32 @@ impl PbmFault {
 }
 
 /// A blank, TAB, LF, VT, FF or CR.
+// ensures { result ≡ Pbm.is_white_space byte }
 fn is_white_space(byte: u8) -> bool {
     byte == b' ' || (9 <= byte && byte <= 13)
 }
 
 /// A LF or CR, which ends a comment.
+// ensures { result ≡ Spec.is_line_end byte }
 fn is_line_end(byte: u8) -> bool {
     byte == b'\n' || byte == b'\r'
 }
 
 /// A decimal digit.
+// ensures { result ≡ Spec.is_digit byte }
 fn is_digit(byte: u8) -> bool {
     b'0' <= byte && byte <= b'9'
 }
 
 /// White space, or the `#` of a comment.
+// ensures { result ≡ Spec.begins_piece byte }
 fn begins_piece(byte: u8) -> bool {
     byte == b'#' || is_white_space(byte)
 }
 
 /// What stands after white space and comments, if anything does.
+// ensures some { IfSome result (λ rest. Spec.after_pieces false bytes.now ≡ Some rest.now) }
+// ensures none { IfNone result (Spec.after_pieces false bytes.now ≡ None) }
 fn after_pieces(bytes: &[u8]) -> Option<&[u8]> {
     let mut in_comment = false;
     for (i, byte) in bytes.iter().enumerate() {
@@ -73,6 +81,8 @@ fn after_pieces(bytes: &[u8]) -> Option<&[u8]> {
 }
 
 /// What stands after a gap, which is white space or a comment or more of them.
+// ensures some { IfSome result (λ rest. Spec.after_gap bytes.now ≡ Some rest.now) }
+// ensures none { IfNone result (Spec.after_gap bytes.now ≡ None) }
 fn after_gap(bytes: &[u8]) -> Option<&[u8]> {
     if bytes.is_empty() || !begins_piece(bytes[0]) {
         return None;
@@ -81,6 +91,10 @@ fn after_gap(bytes: &[u8]) -> Option<&[u8]> {
 }
 
 /// The number that the digits ahead spell, or `OVER` where it is larger, and what stands after it.
+// ensures number { IfSome result (λ found. found.0 ≡ Spec.capped_from 0 bytes.now) }
+// ensures after { IfSome result (λ found. found.1.now ≡ Spec.after_digits bytes.now) }
+// ensures some { IfSome result (λ _. Spec.has_digit bytes.now ≡ true) }
+// ensures none { IfNone result (Spec.has_digit bytes.now ≡ false) }
 fn number(bytes: &[u8]) -> Option<(u32, &[u8])> {
     if bytes.is_empty() || !is_digit(bytes[0]) {
         return None;
@@ -103,6 +117,10 @@ struct Head<'a> {
 }
 
 /// The header at the start of the bytes.
+// ensures some { IfSome result (λ head.
+//     Spec.IsHeadRead bytes.now head.width head.height head.after.now) }
+// ensures none { IfNone result ((width height : ℕ) (rest : List ℕ)
+//     → Spec.IsHeadRead bytes.now width height rest → ⊥) }
 fn read_head(bytes: &[u8]) -> Option<Head<'_>> {
     if !bytes.starts_with(b"P4") {
         return None;
@@ -122,6 +140,7 @@ fn read_head(bytes: &[u8]) -> Option<Head<'_>> {
 }
 
 /// The bytes of a row of this width.
+// ensures { result ≡ Packed.packed_len width }
 fn row_len(width: u32) -> usize {
     (width as usize).div_ceil(8)
 }
@@ -141,6 +160,10 @@ impl<'a> PbmImage<'a> {
     /// The bytes of row `i`, from 0 at the top: eight pels in a byte, the leftmost in its highest
     /// bit, where 1 is black.
     // requires { i < self.now.rows }
+    // ensures bytes { result.now
+    //     ≡ take (Packed.packed_len self.now.width)
+    //     (drop (i * Packed.packed_len self.now.width) self.now.raster.now) }
+    // ensures len { length result.now ≡ Packed.packed_len self.now.width }
     pub fn row(&self, i: u32) -> &'a [u8] {
         let len = row_len(self.width);
         let start = i as usize * len;
@@ -149,11 +172,17 @@ impl<'a> PbmImage<'a> {
 }
 
 /// The numbers are an image's width and height within the limits.
+// ensures { result ≡ Pbm.is_within_limits width height }
 fn is_within_limits(width: u32, height: u32) -> bool {
     (1..=65_535).contains(&width) && (1..=1_000_000).contains(&height)
 }
 
 /// The image at the start of the bytes, and what stands after it.
+// ensures ok { IfOk result (λ found. Pbm.IsImage bytes.now
+//     (View.image_of found.0.width found.0.rows found.0.raster.now) found.1.now) }
+// ensures raster { IfOk result (λ found. Pbm.IsHead bytes.now found.0.width found.0.rows
+//     (found.0.raster.now ++ found.1.now)) }
+// ensures err { IfErr result (Pbm.IsImageFault bytes.now) }
 fn read_image(bytes: &[u8]) -> Result<(PbmImage<'_>, &[u8]), PbmFault> {
     let Some(head) = read_head(bytes) else {
         return Err(PbmFault::BadHeader);
@@ -183,6 +212,7 @@ impl<'a> Model for PbmReader<'a> {}
 
 impl<'a> PbmReader<'a> {
     /// A reader of the images in these bytes.
+    // ensures { result ≡ record { left = bytes.now; fault = None } }
     pub fn new(bytes: &'a [u8]) -> Self {
         PbmReader {
             left: bytes,
@@ -191,6 +221,7 @@ impl<'a> PbmReader<'a> {
     }
 
     /// The bytes that are left.
+    // ensures { result.now ≡ self.now.left }
     pub fn left(&self) -> &'a [u8] {
         self.left
     }
@@ -201,6 +232,13 @@ impl<'a> PbmReader<'a> {
     /// # Errors
     ///
     /// The image's fault, which is answered again from then on.
+    // ensures image { IfOk result (λ found. IfSome found (λ image. IsImageRead self.old
+    //     (image_of image.width image.rows image.raster.now) self.new)) }
+    // The raster is that part of the input.
+    // ensures raster { IfOk result (λ found. IfSome found (λ image. Pbm.IsHead self.old.left
+    //     image.width image.rows (image.raster.now ++ self.new.left))) }
+    // ensures end { IfOk result (λ found. IfNone found (HasNoImageLeft self.old self.new)) }
+    // ensures fault { IfErr result (IsFaultAnswered self.old self.new) }
     pub fn next_image(&mut self) -> Result<Option<PbmImage<'a>>, PbmFault> {
         if let Some(fault) = self.fault {
             return Err(fault);
@@ -226,6 +264,8 @@ impl<'a> PbmReader<'a> {
 /// # Errors
 ///
 /// `Memory` where a growth was refused; the bytes are then as they were.
+// ensures ok { OnOk result (out.new.items ≡ out.old.items ++ View.head_bytes width rows) }
+// ensures err { OnErr result (out.new.items ≡ out.old.items) }
 pub fn put_pbm_head(out: &mut Vec<u8>, width: u32, rows: u32) -> Result<(), Memory> {
     let mut width_digits = Buffer::new();
     let mut rows_digits = Buffer::new();
@@ -246,6 +286,8 @@ pub fn put_pbm_head(out: &mut Vec<u8>, width: u32, rows: u32) -> Result<(), Memo
 /// # Errors
 ///
 /// `Memory` where a growth was refused; the bytes are then as they were.
+// ensures ok { OnOk result (out.new.items ≡ out.old.items ++ Packed.packed_row row.now) }
+// ensures err { OnErr result (out.new.items ≡ out.old.items) }
 pub fn put_pbm_row(out: &mut Vec<u8>, row: &Row) -> Result<(), Memory> {
     let start = out.len();
     let len = row_len(row.width());

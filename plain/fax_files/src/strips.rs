@@ -1,3 +1,4 @@
+// Made by tools/plain-rust of crates/fax_files/src/strips.rt: change that.
 //! Where the strips of a page stand in its file.
 
 use crate::FileFault;
@@ -19,6 +20,8 @@ impl<'a> Model for Strips<'a> {}
 impl<'a> Strips<'a> {
     /// The strips of the page with this directory.
     // requires { AreStripPlaces directory count offsets byte_counts }
+    // ensures directory { result.directory ≡ directory.entry }
+    // ensures count { result.count ≡ count }
     pub(crate) fn new(
         directory: Directory<'a>,
         count: u32,
@@ -34,6 +37,7 @@ impl<'a> Strips<'a> {
     }
 
     /// The number of strips.
+    // ensures { result ≡ self.now.count }
     pub fn count(&self) -> u32 {
         self.count
     }
@@ -41,6 +45,11 @@ impl<'a> Strips<'a> {
     /// The bytes of strip `s`, from 0, or `StripOutside` where they do not lie in the file
     /// (TIFF 6.0, StripOffsets and StripByteCounts).
     // requires { s < self.now.count }
+    // ensures bytes { IfOk result (λ bytes. bytes_of self.now.directory s ≡ Some bytes.now) }
+    // ensures len { IfOk result (λ bytes. length bytes.now ≤ 4294967295) }
+    // ensures within { IfOk result (λ bytes. length bytes.now ≤ length self.now.directory.file) }
+    // ensures outside { OnErr result (bytes_of self.now.directory s ≡ None) }
+    // ensures fault { IfErr result (λ fault. fault ≡ FileFault.StripOutside) }
     pub fn bytes(&self, s: u32) -> Result<&'a [u8], FileFault> {
         // A byte count of 0 at an offset past the file's end is refused too: zero bytes have a
         // place.
@@ -56,6 +65,9 @@ impl<'a> Strips<'a> {
     /// The bytes of strip `s`, from 0, that lie in the file: those before its end, where it has not
     /// all of them (TIFF 6.0, StripOffsets and StripByteCounts).
     // requires { s < self.now.count }
+    // ensures bytes { result.now ≡ inside_of self.now.directory s }
+    // ensures len { length result.now ≤ 4294967295 }
+    // ensures within { length result.now ≤ length self.now.directory.file }
     pub fn bytes_inside(&self, s: u32) -> &'a [u8] {
         let file = self.directory.file();
         let offset = file.value_at(&self.offsets, s) as usize;

@@ -1,3 +1,4 @@
+// Made by tools/plain-rust of crates/fax_files/src/tags.rt: change that.
 //! The tags of the fields of a fax page (TIFF 6.0, sections 8, 11 and 12), and the types of their
 //! values that are read (TIFF 6.0, section 2).
 

@@ -1,3 +1,4 @@
+// Made by tools/plain-rust of crates/fax_files/src/tiff.rt: change that.
 //! A TIFF file and its directories.
 
 use crate::directory::{Directory, entry_count};
@@ -15,6 +16,10 @@ impl<'a> Model for Tiff<'a> {}
 
 impl<'a> Tiff<'a> {
     /// Reads a file's header, or gives its first fault (TIFF 6.0, section 2).
+    // ensures head { IfOk result (λ tiff. header file.now ≡ Ok tiff.head) }
+    // ensures file { IfOk result (λ tiff. tiff.file ≡ file.now) }
+    // ensures some_first { IfOk result (λ tiff. 0 < tiff.head.first) }
+    // ensures fault { IfErr result (λ fault. header file.now ≡ Err fault) }
     pub fn read_header(file: &'a [u8]) -> Result<Self, FileFault> {
         if file.len() < 8 {
             return Err(FileFault::ShortHeader);
@@ -41,11 +46,13 @@ impl<'a> Tiff<'a> {
     }
 
     /// The bytes of the file.
+    // ensures { result.now ≡ self.now.file }
     pub(crate) fn bytes(&self) -> &'a [u8] {
         self.file.bytes
     }
 
     /// The same file once more.
+    // ensures { result ≡ self.now }
     pub(crate) fn again(&self) -> Self {
         Tiff {
             file: self.file,
@@ -54,12 +61,17 @@ impl<'a> Tiff<'a> {
     }
 
     /// The offset of the first directory, in bytes.
+    // ensures { result ≡ self.now.head.first }
     pub fn first(&self) -> u32 {
         self.first
     }
 
     /// The directory at an offset in bytes, or `DirectoryOutside` where it does not lie whole in
     /// the file.
+    // ensures directory { IfOk result (λ directory. directory ≡ directory_of self.now offset) }
+    // ensures whole { OnOk result (IsTrue (has_directory self.now offset)) }
+    // ensures outside { OnErr result (IsFalse (has_directory self.now offset)) }
+    // ensures fault { IfErr result (λ fault. fault ≡ DirectoryOutside) }
     pub fn directory(&self, offset: u32) -> Result<Directory<'a>, FileFault> {
         let offset = offset as usize;
         if !is_inside(self.file.bytes, offset, 2) {
@@ -77,6 +89,10 @@ impl<'a> Tiff<'a> {
     /// one strip: `Strips` gives one after another.
     // requires form { form_of directory.now ≡ Ok form.now }
     // requires strip { s < form.now.strips }
+    // ensures bytes { IfOk result (λ bytes. bytes_of directory.now s ≡ Some bytes.now) }
+    // ensures len { IfOk result (λ bytes. length bytes.now ≤ 4294967295) }
+    // ensures outside { OnErr result (bytes_of directory.now s ≡ None) }
+    // ensures fault { IfErr result (λ fault. fault ≡ StripOutside) }
     pub fn strip(
         &self,
         form: &PageForm,

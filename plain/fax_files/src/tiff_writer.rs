@@ -1,3 +1,4 @@
+// Made by tools/plain-rust of crates/fax_files/src/tiff_writer.rt: change that.
 //! TIFF files, written page by page.
 
 use kit_std::prelude::Vec;
@@ -45,6 +46,14 @@ pub struct PageBytes {
 // requires limits { IsPageForm form.now }
 // requires exchanged { form.now.exchanged ≡ false }
 // requires strips { length strips.now ≡ form.now.strips }
+// ensures bytes { IfOk result (λ page. page.bytes.items
+//     ≡ page_bytes start total number form.now (Spec.contents strips.now)) }
+// ensures directory { IfOk result (λ page. page.directory
+//     ≡ directory_place start (Spec.contents strips.now)) }
+// ensures link { IfOk result (λ page. page.link ≡ page.directory + to_link) }
+// ensures within { IfOk result (λ page. start + length page.bytes.items ≤ max_file) }
+// ensures too_large { (result ≡ Err WriteFault.OutputTooLarge) → max_file
+//     < start + length (page_bytes start total number form.now (Spec.contents strips.now)) }
 pub fn write_page(
     alloc: Global,
     form: &PageForm,
@@ -95,6 +104,7 @@ impl TiffWriter {
     ///
     /// `Memory` where a growth was refused.
     // requires { 1 ≤ pages }
+    // ensures { IfOk result (λ w. w ≡ record { written = empty_file; total = pages; added = 0 }) }
     pub fn new(alloc: Global, pages: u16) -> Result<Self, Memory> {
         let head = [b'I', b'I', 42, 0, 0, 0, 0, 0];
         let Ok(bytes) = Vec::from_slice(alloc, &head) else {
@@ -119,6 +129,10 @@ impl TiffWriter {
     // requires limits { IsPageForm form.now }
     // requires exchanged { form.now.exchanged ≡ false }
     // requires strips { length strips.now ≡ form.now.strips }
+    // ensures ok { OnOk result (self.new ≡ Spec.with_one_more self.old form.now strips.now) }
+    // ensures err { OnErr result (self.new ≡ self.old) }
+    // ensures too_large { (result ≡ Err WriteFault.OutputTooLarge)
+    //     ↔ (max_file < Spec.length_with self.old form.now strips.now) }
     pub fn add_page(&mut self, form: &PageForm, strips: &[Vec<u8>]) -> Result<(), WriteFault> {
         // The page's tail is made first, memory is reserved once for strips and tail, and only then
         // is anything appended. The link to the page is set last.
@@ -153,6 +167,7 @@ impl TiffWriter {
     }
 
     /// How many pages were added.
+    // ensures { result ≡ self.now.added }
     pub fn added(&self) -> u16 {
         self.added
     }
@@ -160,6 +175,9 @@ impl TiffWriter {
     /// The bytes of the file of the pages that were added, each of which says how many these are,
     /// whatever number of pages the file was begun for. Where none was added it is the header
     /// alone, which is no TIFF file.
+    // ensures file { (pages : List WrittenPage) → HasAdded self.total pages self
+    //     → result.items ≡ file_of pages }
+    // ensures all { self.added ≡ self.total → result.items ≡ self.written.bytes }
     pub fn finish(self) -> Vec<u8> {
         let mut bytes = self.bytes;
         put_totals(&mut bytes, self.added);

@@ -1,3 +1,4 @@
+// Made by tools/plain-rust of crates/fax_files/src/totals.rt: change that.
 //! How many pages a file has that is written page by page, told in each of them.
 
 use crate::Endian;
@@ -7,6 +8,7 @@ use byteorder::{ByteOrder, LittleEndian};
 
 /// Where the link of the page stands to whose directory a link leads.
 // requires { link + 4 ≤ length file.now }
+// ensures { result ≡ Spec.next_link file.now link }
 fn next_link(file: &[u8], link: usize) -> usize {
     let file = File {
         bytes: file,
@@ -17,6 +19,7 @@ fn next_link(file: &[u8], link: usize) -> usize {
 
 /// Writes a number of two bytes at a place.
 // requires { place + 2 ≤ length file.old }
+// ensures { file.new ≡ take place file.old ++ two n ++ drop (place + 2) file.old }
 fn set_two(file: &mut [u8], place: usize, n: u16) {
     LittleEndian::write_u16(&mut file[place..place + 2], n);
 }
@@ -26,6 +29,7 @@ fn set_two(file: &mut [u8], place: usize, n: u16) {
 /// TIFF 6.0, PageNumber: the second number, 0 where it is not known.
 // requires header { 8 ≤ length file.old }
 // requires pages { (last : ℕ) × Spec.ArePagesAfter file.old pages 4 last }
+// ensures { file.new ≡ Spec.with_totals pages pages 4 file.old }
 pub fn put_totals(file: &mut [u8], pages: u16) {
     let mut link = 4;
     for _ in 0..pages {

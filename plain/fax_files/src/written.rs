@@ -1,3 +1,4 @@
+// Made by tools/plain-rust of crates/fax_files/src/written.rt: change that.
 //! The parts of a written page (TIFF 6.0; RFC 2306), all numbers with their lowest byte first.
 
 use kit_std::prelude::Vec;
@@ -25,6 +26,7 @@ const TO_Y: u32 = TO_X + 8;
 const TO_OFFSETS: u32 = TO_Y + 8;
 
 /// The four bytes of a number.
+// ensures { result ≡ Spec.four n }
 pub(crate) fn four_bytes(n: u32) -> [u8; 4] {
     let mut bytes = [0; 4];
     LittleEndian::write_u32(&mut bytes, n);
@@ -32,6 +34,7 @@ pub(crate) fn four_bytes(n: u32) -> [u8; 4] {
 }
 
 /// The two bytes of one number, and then those of another.
+// ensures { result ≡ Spec.two first ++ Spec.two second }
 fn two_and_two(first: u16, second: u16) -> [u8; 4] {
     let mut bytes = [0; 4];
     LittleEndian::write_u16(&mut bytes, first);
@@ -40,6 +43,7 @@ fn two_and_two(first: u16, second: u16) -> [u8; 4] {
 }
 
 /// Appends a number of two bytes.
+// ensures { OnOk result (out.new.items ≡ out.old.items ++ Spec.two n) }
 fn put_two(out: &mut Vec<u8>, n: u16) -> Result<(), AllocError> {
     let mut bytes = [0; 2];
     LittleEndian::write_u16(&mut bytes, n);
@@ -47,6 +51,7 @@ fn put_two(out: &mut Vec<u8>, n: u16) -> Result<(), AllocError> {
 }
 
 /// Appends a number of four bytes.
+// ensures { OnOk result (out.new.items ≡ out.old.items ++ Spec.four n) }
 fn put_four(out: &mut Vec<u8>, n: u32) -> Result<(), AllocError> {
     out.extend_from_slice(&four_bytes(n))
 }
@@ -62,6 +67,7 @@ struct Field {
 impl Model for Field {}
 
 /// A field of one SHORT.
+// ensures { result ≡ Parts.short_field tag n }
 fn short_field(tag: u16, n: u16) -> Field {
     Field {
         tag,
@@ -72,6 +78,7 @@ fn short_field(tag: u16, n: u16) -> Field {
 }
 
 /// A field of LONGs: the one that there is, or the place of the first.
+// ensures { result ≡ Parts.long_field tag count n }
 fn long_field(tag: u16, count: u32, n: u32) -> Field {
     Field {
         tag,
@@ -82,6 +89,7 @@ fn long_field(tag: u16, count: u32, n: u32) -> Field {
 }
 
 /// A field of one fraction, which stands at a place.
+// ensures { result ≡ Parts.rational_field tag place }
 fn rational_field(tag: u16, place: u32) -> Field {
     Field {
         tag,
@@ -92,6 +100,7 @@ fn rational_field(tag: u16, place: u32) -> Field {
 }
 
 /// T4Options for MH and MR, with bit 2 where EOLs are aligned, T6Options for MMR.
+// ensures { result ≡ Spec.options_field coding aligned }
 fn options_field(coding: Coding, aligned: bool) -> Field {
     match coding {
         Coding::Mh => long_field(tags::T4_OPTIONS, 1, if aligned { 4 } else { 0 }),
@@ -101,6 +110,7 @@ fn options_field(coding: Coding, aligned: bool) -> Field {
 }
 
 /// The number of a coding in Compression.
+// ensures { result ≡ Spec.compression_of coding }
 fn compression(coding: Coding) -> u16 {
     match coding {
         Coding::Mh | Coding::Mr => 3,
@@ -109,6 +119,7 @@ fn compression(coding: Coding) -> u16 {
 }
 
 /// The number of a fill order in FillOrder.
+// ensures { result ≡ fill_order_of order }
 fn fill_order(order: FillOrder) -> u16 {
     match order {
         FillOrder::MsbFirst => 1,
@@ -134,6 +145,7 @@ pub(crate) struct Layout {
 }
 
 /// Appends the entry of a field.
+// ensures { OnOk result (out.new.items ≡ out.old.items ++ Spec.field_bytes field.now) }
 fn put_field(out: &mut Vec<u8>, field: &Field) -> Result<(), AllocError> {
     put_two(out, field.tag)?;
     put_two(out, field.kind)?;
@@ -142,6 +154,7 @@ fn put_field(out: &mut Vec<u8>, field: &Field) -> Result<(), AllocError> {
 }
 
 /// Appends a fraction.
+// ensures { OnOk result (out.new.items ≡ out.old.items ++ Parts.rational_bytes value) }
 fn put_rational(out: &mut Vec<u8>, value: (u32, u32)) -> Result<(), AllocError> {
     put_four(out, value.0)?;
     put_four(out, value.1)
@@ -149,6 +162,7 @@ fn put_rational(out: &mut Vec<u8>, value: (u32, u32)) -> Result<(), AllocError> 
 
 /// The fields of a page.
 // requires { at.now.directory ≤ max_file }
+// ensures { result ≡ laid_out_fields at.now form.now }
 fn page_fields(form: &PageForm, at: &Layout) -> [Field; FIELDS] {
     // The places of a directory's parts are computed from `FIELDS`, in the definitions too: one
     // more field is a line in each, and the two counts.
@@ -179,6 +193,8 @@ fn page_fields(form: &PageForm, at: &Layout) -> [Field; FIELDS] {
 
 /// Appends a directory of these fields, with the next offset 0.
 // requires { length fields.now < 65536 }
+// ensures { OnOk result (out.new.items ≡ out.old.items ++ Parts.fields_bytes fields.now
+//     ++ Spec.four 0) }
 fn put_directory(out: &mut Vec<u8>, fields: &[Field]) -> Result<(), AllocError> {
     put_two(out, fields.len() as u16)?;
     for field in fields {
@@ -189,6 +205,8 @@ fn put_directory(out: &mut Vec<u8>, fields: &[Field]) -> Result<(), AllocError> 
 
 /// Appends the offsets of strips that begin at a place.
 // requires { start + length (Parts.joined_strips (contents strips.now)) < 4294967296 }
+// ensures { OnOk result (out.new.items
+//     ≡ out.old.items ++ Parts.longs (Spec.offsets_from start (contents strips.now))) }
 fn put_offsets(out: &mut Vec<u8>, start: u32, strips: &[Vec<u8>]) -> Result<(), AllocError> {
     let mut place = start;
     for strip in strips {
@@ -200,6 +218,8 @@ fn put_offsets(out: &mut Vec<u8>, start: u32, strips: &[Vec<u8>]) -> Result<(), 
 
 /// Appends the byte counts of strips.
 // requires { length (Parts.joined_strips (contents strips.now)) < 4294967296 }
+// ensures { OnOk result (out.new.items
+//     ≡ out.old.items ++ Parts.longs (Parts.lengths_of (contents strips.now))) }
 fn put_byte_counts(out: &mut Vec<u8>, strips: &[Vec<u8>]) -> Result<(), AllocError> {
     for strip in strips {
         put_four(out, strip.len() as u32)?;
@@ -208,6 +228,9 @@ fn put_byte_counts(out: &mut Vec<u8>, strips: &[Vec<u8>]) -> Result<(), AllocErr
 }
 
 /// Appends the bytes of strips. Where a growth is refused, what stood there stays in front.
+// ensures ok { OnOk result (out.new.items
+//     ≡ out.old.items ++ Parts.joined_strips (contents strips.now)) }
+// ensures err { OnErr result (take (length out.old.items) out.new.items ≡ out.old.items) }
 fn put_strips(out: &mut Vec<u8>, strips: &[Vec<u8>]) -> Result<(), AllocError> {
     for strip in strips {
         out.extend_from_slice(strip)?;
@@ -229,6 +252,9 @@ pub(crate) struct StripsAt<'a> {
 //     ≡ placed.start + length (Parts.joined_strips (contents placed.strips.now)) }
 // requires limit { at.now.directory ≤ max_file }
 // requires strips { at.now.strips ≡ length placed.strips.now }
+// ensures { IfOk result (λ tail. tail.items
+//     ≡ tail_bytes placed.entry.end (laid_out_fields at.now form.now) form.now
+//     placed.entry.start (contents placed.entry.strips.now)) }
 pub(crate) fn page_tail(
     alloc: Global,
     form: &PageForm,
@@ -251,6 +277,7 @@ pub(crate) fn page_tail(
 }
 
 /// How many bytes a file has whose last page has its directory at this place, and so many strips.
+// ensures { result ≡ end_of_page directory strips }
 pub(crate) fn page_end(directory: u32, strips: u32) -> u64 {
     let arrays = if strips == 1 {
         0
@@ -263,6 +290,7 @@ pub(crate) fn page_end(directory: u32, strips: u32) -> u64 {
 /// How a page is laid out whose strips begin at `start` and end at `end`.
 // requires order { start ≤ end }
 // requires limit { end_of_page (end + end % 2) strips ≤ max_file }
+// ensures { IsLayout result strips start end number total }
 pub(crate) fn laid_out(strips: u32, start: u32, end: u32, number: u16, total: u16) -> Layout {
     let directory = end + end % 2;
     let (offsets, byte_counts) = if strips == 1 {
@@ -283,6 +311,9 @@ pub(crate) fn laid_out(strips: u32, start: u32, end: u32, number: u16, total: u1
 
 /// Appends strips and what stands after them, for which memory is reserved at once. Where it is
 /// refused, what stood there stays in front.
+// ensures ok { OnOk result (bytes.new.items
+//     ≡ bytes.old.items ++ (Parts.joined_strips (contents strips.now) ++ tail.now)) }
+// ensures err { OnErr result (take (length bytes.old.items) bytes.new.items ≡ bytes.old.items) }
 pub(crate) fn append(bytes: &mut Vec<u8>, strips: &[Vec<u8>], tail: &[u8]) -> Result<(), AllocError> {
     put_strips(bytes, strips)?;
     bytes.extend_from_slice(tail)
@@ -290,12 +321,18 @@ pub(crate) fn append(bytes: &mut Vec<u8>, strips: &[Vec<u8>], tail: &[u8]) -> Re
 
 /// Sets the four bytes at a place.
 // requires { place + 4 ≤ length bytes.old }
+// ensures { bytes.new ≡ Parts.with_four_at bytes.old place n }
 fn set_four(bytes: &mut [u8], place: usize, n: u32) {
     bytes[place..place + 4].copy_from_slice(&four_bytes(n));
 }
 
 /// The place after strips that begin at a place, if it is within the limit of a file.
 // requires { start ≤ max_file }
+// ensures found { IfSome result (λ end. end
+//     ≡ start + length (Parts.joined_strips (contents strips.now))) }
+// ensures limit { IfSome result (λ end. end ≤ max_file) }
+// ensures none { IfNone result (max_file
+//     < start + length (Parts.joined_strips (contents strips.now))) }
 pub(crate) fn strips_end(start: u32, strips: &[Vec<u8>]) -> Option<u32> {
     let mut end = start;
     for strip in strips {
@@ -309,6 +346,7 @@ pub(crate) fn strips_end(start: u32, strips: &[Vec<u8>]) -> Option<u32> {
 
 /// Sets the four bytes at a place of a file.
 // requires { place + 4 ≤ length bytes.old.items }
+// ensures { bytes.new.items ≡ Parts.with_four_at bytes.old.items place n }
 pub(crate) fn set_link(bytes: &mut Vec<u8>, place: usize, n: u32) {
     set_four(bytes, place, n);
 }

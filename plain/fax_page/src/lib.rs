@@ -1,7 +1,7 @@
+// Made by tools/plain-rust of crates/fax_page/src/lib.rt: change that.
 //! Strips of fax pages, row by row (ITU-T T.4 and T.6, and this project's profile).
 #![forbid(unsafe_code)]
 
-pub mod laws;
 mod lines;
 mod notes;
 mod reader;

@@ -1,3 +1,4 @@
+// Made by tools/plain-rust of crates/fax_page/src/lines.rt: change that.
 //! A row of a strip: what stands before its codes, and its codes.
 
 use kit_std::prelude::prove;
@@ -10,6 +11,9 @@ const EOL_ZEROS: u64 = 11;
 
 /// Reads fill and an EOL (T.4, sections 4.1.2 and 4.1.3), which some rows may lack.
 #[inline(always)]
+// ensures ok { OnOk result (HasEol may_lack source.old.left source.new.left) }
+// ensures err { IfErr result (HasNoEol may_lack source.old.left) }
+// ensures same_end { KeepsEnd source.old source.new }
 pub(crate) fn read_eol(source: &mut BitSource, may_lack: bool) -> Result<(), StripFault> {
     if source.past_zeros_and_one(EOL_ZEROS as u32) {
         return Ok(());
@@ -30,6 +34,10 @@ pub(crate) fn read_eol(source: &mut BitSource, may_lack: bool) -> Result<(), Str
 
 /// Reads the tag bit after an EOL of MR, which says how the row is coded (T.4, section 4.2.2).
 #[inline(always)]
+// ensures ok { IfOk result (λ dimension.
+//     source.old.left ≡ Lines.tag_bit dimension ∷ source.new.left) }
+// ensures err { IfErr result (λ fault. (source.old.left ≡ []) × (fault ≡ StripFault.DataEnds)) }
+// ensures same_end { KeepsEnd source.old source.new }
 fn read_tag(source: &mut BitSource) -> Result<Dimension, StripFault> {
     if source.remaining() == 0 {
         return Err(StripFault::DataEnds);
@@ -47,6 +55,10 @@ fn read_tag(source: &mut BitSource) -> Result<Dimension, StripFault> {
 /// MH, an EOL and a tag bit in MR, nothing in MMR (T.4, sections 4.1.2 and 4.2.2; T.6, section
 /// 2.2.1).
 #[inline(always)]
+// ensures ok { IfOk result (λ dimension.
+//     Lines.read_start coding i source.old.left ≡ Ok (dimension, source.new.left)) }
+// ensures err { IfErr result (λ fault. Lines.read_start coding i source.old.left ≡ Err fault) }
+// ensures same_end { KeepsEnd source.old source.new }
 pub(crate) fn read_start(
     source: &mut BitSource,
     coding: Coding,
@@ -68,6 +80,8 @@ pub(crate) fn read_start(
 
 /// Whether a row's first code may be read: an EOL in its place is the end of the page (T.4,
 /// section 4.1.4), or of the facsimile block (T.6).
+// ensures ok { OnOk result (BeginsBelowEleven source.now.left) }
+// ensures err { IfErr result (λ fault. IsFirstCodeFault source.now.left fault) }
 fn check_first_code(source: &BitSource) -> Result<(), StripFault> {
     // In MH the search for the EOL comes before this: so a strip without a single 1 where a row is
     // due is `DataEnds` there, with eleven zeros or more too. In MMR no EOL is sought, and eleven
@@ -84,6 +98,7 @@ fn check_first_code(source: &BitSource) -> Result<(), StripFault> {
 
 /// Why there is no row whose codes are due here, where their reader stopped for this cause. Codes
 /// that it takes begin with a first code, so that one is looked for only then.
+// ensures { IsStop codes.now.left cause result }
 pub(crate) fn stop(codes: &BitSource, cause: RowFault) -> StripFault {
     match check_first_code(codes) {
         Ok(()) => cause.into(),
@@ -94,6 +109,12 @@ pub(crate) fn stop(codes: &BitSource, cause: RowFault) -> StripFault {
 /// Goes past the codes of a row that is white as its reference row is, where they are seen to be
 /// next and T.4's choice, and answers whether they are. Else the source stays.
 #[inline(always)]
+// ensures row { IsTrue result → Lines.IsRowIn dimension (length reference.now) reference.now
+//     source.old.left reference.now source.new.left }
+// ensures chosen { IsTrue result
+//     → IsChosen dimension reference.now source.old.left reference.now source.new.left }
+// ensures unchanged { result ≡ false → source.new.left ≡ source.old.left }
+// ensures same_end { KeepsEnd source.old source.new }
 pub(crate) fn take_white(source: &mut BitSource, dimension: Dimension, reference: &Row) -> bool {
     match dimension {
         Dimension::OneDimensional => take_white_1d(source, reference),
@@ -104,6 +125,12 @@ pub(crate) fn take_white(source: &mut BitSource, dimension: Dimension, reference
 /// Reads the codes of a row that is coded so into `row`, of which nothing is said after a fault.
 #[inline(always)]
 // requires same_width { length reference.now ≡ length row.old }
+// ensures ok { OnOk result (Lines.IsRowIn dimension (length row.old) reference.now
+//     source.old.left row.new source.new.left) }
+// ensures err { IfErr result
+//     (Lines.IsRowFaultIn dimension (length row.old) reference.now source.old.left) }
+// ensures same_width { length row.new ≡ length row.old }
+// ensures same_end { KeepsEnd source.old source.new }
 pub(crate) fn read_codes(
     source: &mut BitSource,
     dimension: Dimension,
@@ -127,6 +154,8 @@ pub(crate) enum LineStop {
 /// codes is read once more here, so that no row keeps the place of its codes for a fault.
 #[cold]
 #[inline(never)]
+// ensures { (reference : List Colour) → IsLineStop form i reference start.entry.left why
+//     → Lines.IsCause form i reference start.entry.left result }
 pub(crate) fn line_fault(mut start: BitSource, form: StripForm, i: u32, why: LineStop) -> StripFault {
     // A copy of the source there would be made at each row.
     match why {
@@ -141,6 +170,8 @@ pub(crate) fn line_fault(mut start: BitSource, form: StripForm, i: u32, why: Lin
 /// Whether fewer than eleven zeros stand before the next 1: no EOL begins there (T.4, section
 /// 4.1.2).
 #[inline(always)]
+// ensures yes { IsTrue result → BeginsBelowEleven source.now.left }
+// ensures no { result ≡ false → BeginsBelowEleven source.now.left → ⊥ }
 pub(crate) fn begins_below_eleven(source: &BitSource) -> bool {
     match source.zeros() {
         Some(zeros) => zeros < EOL_ZEROS,
@@ -149,6 +180,7 @@ pub(crate) fn begins_below_eleven(source: &BitSource) -> bool {
 }
 
 /// Where the first EOL begins: its eleven zeros and its 1 (T.4, section 4.1.2).
+// ensures { IsFirstEol source.old result }
 fn first_eol(source: &mut BitSource) -> Option<u64> {
     while let Some(zeros) = source.zeros() {
         // For the proof, as in `read_eol`.
@@ -164,6 +196,7 @@ fn first_eol(source: &mut BitSource) -> Option<u64> {
 
 /// Where the next EOL begins after row `i`, which begins at this source and is lost: after its own
 /// EOL and tag bit, if it has them. In MMR there is none.
+// ensures { IsNextEol coding i start.entry result }
 pub(crate) fn next_eol(start: BitSource, coding: Coding, i: u32) -> Option<u64> {
     if let Coding::Mmr = coding {
         return None;

@@ -1,3 +1,4 @@
+// Made by tools/plain-rust of crates/fax_page/src/notes.rt: change that.
 //! What is worth a note in a strip that has all its rows.
 
 use crate::lines::{read_codes, read_eol, read_start, stop, take_white};
@@ -67,6 +68,13 @@ impl From<Memory> for NotesFault {
 /// Reads the codes of a row that is coded so into `row`, of which nothing is said after a fault,
 /// and answers whether they are seen to be those that T.4 chooses.
 // requires same_width { length reference.now ≡ length row.old }
+// ensures ok { OnOk result (IsRowIn dimension (length row.old) reference.now
+//     source.old.left row.new source.new.left) }
+// ensures chosen { IfOk result (λ chosen. IsTrue chosen
+//     → Code.IsChosen dimension reference.now source.old.left row.new source.new.left) }
+// ensures err { IfErr result
+//     (IsRowFaultIn dimension (length row.old) reference.now source.old.left) }
+// ensures same_width { length row.new ≡ length row.old }
 fn read_seen(
     source: &mut BitSource,
     dimension: Dimension,
@@ -102,6 +110,13 @@ impl<'a> NotedStrip<'a> {
     /// fault, and answers whether they are those that T.4 chooses. Only where that is not seen
     /// while they are read, the row is written and compared.
     // requires { Code.IsNoting self.old rows.old }
+    // ensures ok { IfOk result (Code.AreCodesRead self.old.form dimension rows.old.reference
+    //     self.old.source.left rows.new.row self.new.source.left) }
+    // ensures err { IfErr result (Code.IsCodesFault self.old.form i dimension
+    //     rows.old.reference self.old.source.left) }
+    // ensures same_width { length rows.new.row ≡ length rows.old.row }
+    // ensures same_reference { rows.new.reference ≡ rows.old.reference }
+    // ensures same_form { self.new.form ≡ self.old.form }
     fn read_choice(
         &mut self,
         rows: &mut NotedRows,
@@ -111,8 +126,6 @@ impl<'a> NotedStrip<'a> {
         // The readers answer whether each step was T.4's choice; at any doubt the row is written
         // again, in a sink that is emptied for each row, and compared. That a row begins so is that
         // it is coded so, since what is written is read as nothing else (a law of `fax_rows`).
-        fax_rows::laws::one_dimensional_rows_are_read_as_nothing_else();
-        fax_rows::laws::two_dimensional_rows_are_read_as_nothing_else();
         let codes = self.source.again();
         match read_seen(&mut self.source, dimension, &rows.reference, &mut rows.row) {
             Ok(true) => return Ok(true),
@@ -130,6 +143,14 @@ impl<'a> NotedStrip<'a> {
     /// Reads the codes of row `i`, which are due, into `row`, of which nothing is said after a
     /// fault, and asks nothing of them.
     // requires { Code.IsNoting self.old rows.old }
+    // ensures ok { OnOk result (IsRowIn dimension self.old.form.width rows.old.reference
+    //     self.old.source.left rows.new.row self.new.source.left) }
+    // ensures err { IfErr result (Code.IsCodesFault self.old.form i dimension
+    //     rows.old.reference self.old.source.left) }
+    // ensures same_width { length rows.new.row ≡ length rows.old.row }
+    // ensures same_reference { rows.new.reference ≡ rows.old.reference }
+    // ensures same_form { self.new.form ≡ self.old.form }
+    // ensures same_choice { self.new.not_t4_choice ≡ self.old.not_t4_choice }
     fn read_unasked(
         &mut self,
         rows: &mut NotedRows,
@@ -149,6 +170,13 @@ impl<'a> NotedStrip<'a> {
     /// Reads the codes of row `i`, which are due. Once the codes of a row are others than T.4
     /// chooses, rows are only read.
     // requires { Code.IsNoting self.old rows.old }
+    // ensures ok { OnOk result (Code.AreCodesNoted self.old.form dimension rows.old.reference
+    //     self.old.source.left rows.new.reference self.new.source.left
+    //     self.old.not_t4_choice self.new.not_t4_choice) }
+    // ensures err { IfErr result (Code.IsCodesFault self.old.form i dimension
+    //     rows.old.reference self.old.source.left) }
+    // ensures still { Code.IsNoting self.new rows.new }
+    // ensures same_form { self.new.form ≡ self.old.form }
     fn note_codes(
         &mut self,
         rows: &mut NotedRows,
@@ -166,6 +194,13 @@ impl<'a> NotedStrip<'a> {
 
     /// Reads row `i`, the one that is due. A white row after a white one is gone past.
     // requires { Code.IsNoting self.old rows.old }
+    // ensures ok { OnOk result (Code.IsLineNoted self.old.form i rows.old.reference
+    //     self.old.source.left rows.new.reference self.new.source.left
+    //     self.old.not_t4_choice self.new.not_t4_choice) }
+    // ensures err { IfErr result
+    //     (Code.IsLineFault self.old.form i rows.old.reference self.old.source.left) }
+    // ensures still { Code.IsNoting self.new rows.new }
+    // ensures same_form { self.new.form ≡ self.old.form }
     fn read_row(&mut self, rows: &mut NotedRows, i: u32) -> Result<(), NotesFault> {
         let dimension = match read_start(&mut self.source, self.form.coding, i) {
             Ok(dimension) => dimension,
@@ -180,6 +215,7 @@ impl<'a> NotedStrip<'a> {
 
 /// Goes after an EOL of a return to control, and answers whether there is one (T.4, sections 4.1.4
 /// and 4.2.4).
+// ensures { Code.TakesReturnEol coding source.old.left result source.new.left }
 fn take_return_eol(source: &mut BitSource, coding: Coding) -> bool {
     if let Err(_none) = read_eol(source, false) {
         return false;
@@ -192,6 +228,7 @@ fn take_return_eol(source: &mut BitSource, coding: Coding) -> bool {
 }
 
 /// What stands after a return to control, where there is one (T.4, section 4.1.4).
+// ensures { Code.IsAfterMark (Spec.AreReturnEols coding 6 source.now.left) result }
 fn after_return_to_control<'a>(source: &BitSource<'a>, coding: Coding) -> Option<BitSource<'a>> {
     let mut ahead = source.again();
     for _eol in 0..RETURN_EOLS {
@@ -204,6 +241,7 @@ fn after_return_to_control<'a>(source: &BitSource<'a>, coding: Coding) -> Option
 
 /// What stands after the end mark of a strip, where there is one (T.4, section 4.1.4; T.6,
 /// End-of-facsimile block).
+// ensures { Code.IsAfterMark (Spec.IsEndMark coding source.now.left) result }
 pub(crate) fn after_end<'a>(source: &BitSource<'a>, coding: Coding) -> Option<BitSource<'a>> {
     // The end of a facsimile block has no fill: with a zero before it a strip of MMR has none, and
     // data.
@@ -221,6 +259,7 @@ pub(crate) fn after_end<'a>(source: &BitSource<'a>, coding: Coding) -> Option<Bi
 }
 
 /// The notes on a strip whose rows end at a source.
+// ensures { Code.AreNotesAfter coding source.now.left not_t4_choice result }
 fn notes_after(source: &BitSource, coding: Coding, not_t4_choice: bool) -> StripNotes {
     // A lone EOL after the last row is data after the end: no return to control stands there. Six
     // EOLs after a strip of MMR are the end of its block, two EOLs, and then data.
@@ -242,6 +281,7 @@ fn notes_after(source: &BitSource, coding: Coding, not_t4_choice: bool) -> Strip
 
 /// What was found in so many rows whose data go on at a source, where this fault is in the way of
 /// the next row, or none is.
+// ensures { Code.AreFoundAfter coding due.now.left rows fault not_t4_choice result }
 fn found_in_rows(
     due: &BitSource,
     coding: Coding,
@@ -272,6 +312,7 @@ impl NotesReader {
     /// `Memory` where a growth was refused.
     // requires some { 0 < width }
     // requires short { width < 2 ^ 16 }
+    // ensures { IfOk result (λ reader. reader ≡ width) }
     pub fn new(alloc: Global, width: u32) -> Result<Self, Memory> {
         let reference = Row::white(alloc, width)?;
         let row = Row::white(alloc, width)?;
@@ -295,8 +336,11 @@ impl NotesReader {
     // requires count { length bytes.now ≤ 4294967295 }
     // requires limits { IsStripForm form }
     // requires width { form.width ≡ self.old }
+    // ensures ok { IfOk result (λ notes. (rows : List (List Colour))
+    //     × Spec.IsNotedAs form (bits form.order bytes.now) rows notes) }
+    // ensures err { IfErr result (IsNotesFault form (bits form.order bytes.now)) }
+    // ensures same_width { self.new ≡ self.old }
     pub fn notes(&mut self, bytes: &[u8], form: StripForm) -> Result<StripNotes, NotesFault> {
-        crate::laws::lines_are_read_in_one_way();
         self.rows.reference.whiten();
         let mut strip = NotedStrip {
             source: BitSource::new(bytes, form.order),
@@ -319,12 +363,14 @@ impl NotesReader {
     // requires count { length bytes.now ≤ 4294967295 }
     // requires limits { IsStripForm form }
     // requires width { form.width ≡ self.old }
+    // ensures ok { IfOk result (λ found. (rows : List (List Colour))
+    //     × IsNotedUncounted form (bits form.order bytes.now) rows found) }
+    // ensures same_width { self.new ≡ self.old }
     pub fn uncounted_notes(
         &mut self,
         bytes: &[u8],
         form: StripForm,
     ) -> Result<UncountedNotes, Memory> {
-        crate::laws::lines_are_read_in_one_way();
         self.rows.reference.whiten();
         let mut strip = NotedStrip {
             source: BitSource::new(bytes, form.order),
@@ -358,6 +404,9 @@ impl NotesReader {
 /// `Strip` where a row cannot be read, and `Memory` where a growth was refused.
 // requires count { length bytes.now ≤ 4294967295 }
 // requires limits { IsStripForm form }
+// ensures ok { IfOk result (λ notes. (rows : List (List Colour))
+//     × Spec.IsNotedAs form (bits form.order bytes.now) rows notes) }
+// ensures err { IfErr result (IsNotesFault form (bits form.order bytes.now)) }
 pub fn strip_notes(alloc: Global, bytes: &[u8], form: StripForm) -> Result<StripNotes, NotesFault> {
     let mut reader = NotesReader::new(alloc, form.width)?;
     reader.notes(bytes, form)

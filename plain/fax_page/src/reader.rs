@@ -1,10 +1,10 @@
+// Made by tools/plain-rust of crates/fax_page/src/reader.rt: change that.
 //! A reader of strips.
 
 use crate::lines::{begins_below_eleven, line_fault, next_eol, read_start};
 use crate::rows_in_turn::{RowsInTurn, is_row};
 use crate::uncounted::end_of_rows;
 use crate::{Coding, Dimension, PlaceFault, RowBefore, RowsEnd, StripFault, StripForm};
-use fax_bits::laws::bits_stand_by_place;
 use fax_rows::{BitSource, Memory, Row};
 use kit_std::alloc::Global;
 use kit_std::marker::Model;
@@ -40,6 +40,7 @@ impl<'a> StripReader<'a> {
     /// `Memory` where a growth was refused.
     // requires count { length bytes.now ≤ 4294967295 }
     // requires limits { IsStripForm form }
+    // ensures { IfOk result (λ reader. reader ≡ strip_beginning form bytes.now) }
     pub fn new(alloc: Global, bytes: &'a [u8], form: StripForm) -> Result<Self, Memory> {
         let rows = RowsInTurn::new(alloc, form.width)?;
         Ok(StripReader {
@@ -65,6 +66,7 @@ impl<'a> StripReader<'a> {
     // requires count { length bytes.now ≤ 4294967295 }
     // requires limits { IsStripForm form }
     // requires due { row < form.rows }
+    // ensures { IsBegunInside form bytes.now row bits before.entry result }
     pub fn inside(
         alloc: Global,
         bytes: &'a [u8],
@@ -73,7 +75,6 @@ impl<'a> StripReader<'a> {
         bits: u32,
         before: RowBefore,
     ) -> Result<Self, PlaceFault> {
-        bits_stand_by_place();
         // The runs are looked at before memory is taken: a place that is none is told so, however
         // little memory there is.
         let place = u64::from(bits);
@@ -105,6 +106,7 @@ impl<'a> StripReader<'a> {
     // requires count { length bytes.now ≤ 4294967295 }
     // requires some { 0 < rows }
     // requires few { rows ≤ most_rows }
+    // ensures { self.new ≡ restarted self.old bytes.now rows }
     pub fn restart(&mut self, bytes: &'a [u8], rows: u32) {
         self.read_before = self.rows_read();
         self.bytes = bytes;
@@ -126,8 +128,8 @@ impl<'a> StripReader<'a> {
     // requires few { rows ≤ most_rows }
     // requires within { bits ≤ 8 * length bytes.now }
     // requires width { length reference.now ≡ self.old.form.width }
+    // ensures { self.new ≡ restarted_at self.old bytes.now rows row bits reference.now }
     pub fn restart_at(&mut self, bytes: &'a [u8], rows: u32, row: u32, bits: u64, reference: &Row) {
-        bits_stand_by_place();
         let mut source = BitSource::new(bytes, self.form.order);
         source.skip(bits);
         self.read_before = self.rows_read();
@@ -148,11 +150,10 @@ impl<'a> StripReader<'a> {
     /// Why the row that is due could not be read. Every later call answers the same, until
     /// `restart` or `restart_at`.
     #[inline(always)]
+    // ensures { IsAdvance self.old result self.new }
     pub fn advance(&mut self) -> Result<bool, StripFault> {
         // It stands beside `next_row`, which lends the row: the checker proves a lent row through
         // one layer of crates and not through two, and the walk lends it on.
-        bits_stand_by_place();
-        crate::laws::lines_are_read_in_one_way();
         if let Some(fault) = self.fault {
             return Err(fault);
         }
@@ -177,6 +178,8 @@ impl<'a> StripReader<'a> {
 
     /// The reference of the row that is due: the row before it, white at a strip's beginning. After
     /// a fault it is what it was before that call.
+    // ensures pels { result.now ≡ self.now.reference }
+    // ensures width { length result.now ≡ self.now.form.width }
     pub fn reference(&self) -> &Row {
         self.rows.reference()
     }
@@ -188,6 +191,8 @@ impl<'a> StripReader<'a> {
     ///
     /// Why the row that is due could not be read. Every later call answers the same, until
     /// `restart` or `restart_at`.
+    // ensures row { IfOk result (λ lent. IfSome lent (λ row. IsDue self.old row.now)) }
+    // ensures* next { sem 𝓛 (EndsAs self.entry (IsNextRow self.old result)) }
     pub fn next_row(&mut self) -> Result<Option<&Row>, StripFault> {
         // The contract says plainly which row is lent (`IsDue`), beside what the reader is once the
         // row is given back: a caller that goes no further needs no more.
@@ -200,6 +205,8 @@ impl<'a> StripReader<'a> {
 
     /// The number of the row that is due in its strip, from 0, or how many rows the strip has, once
     /// all are read. After a fault it is what it was before that call.
+    // ensures row { result ≡ self.now.row }
+    // ensures within { result ≤ self.now.form.rows }
     pub fn row(&self) -> u32 {
         self.row
     }
@@ -208,6 +215,7 @@ impl<'a> StripReader<'a> {
     /// strips.
     #[cold]
     // requires { self.now.fault ≡ None }
+    // ensures { SaysTwoDimensional self.now.form self.now.row (bits_left self.now) result }
     pub(crate) fn begins_two_dimensional(&self) -> bool {
         if self.row == self.form.rows {
             return false;
@@ -224,6 +232,7 @@ impl<'a> StripReader<'a> {
     /// and MR each row but a strip's last has an EOL after it, or nothing but zeros.
     #[inline(always)]
     // requires { self.now.fault ≡ None }
+    // ensures { SaysUnended self.now.form self.now.row (bits_left self.now) result }
     pub(crate) fn lacks_eol(&self) -> bool {
         if self.form.coding == Coding::Mmr || self.row == self.form.rows {
             return false;
@@ -235,8 +244,9 @@ impl<'a> StripReader<'a> {
     /// white reference. A fault is forgotten. It takes no memory.
     // requires row { row ≤ self.old.form.rows }
     // requires within { bits ≤ 8 * length self.old.bytes }
+    // ensures { self.new ≡ restarted_at self.old self.old.bytes self.old.form.rows row bits
+    //     (white_row self.old.form.width) }
     fn go_to_row(&mut self, row: u32, bits: u64) {
-        bits_stand_by_place();
         let mut source = BitSource::new(self.bytes, self.form.order);
         source.skip(bits);
         self.read_before = self.rows_read();
@@ -255,8 +265,8 @@ impl<'a> StripReader<'a> {
     #[inline(never)]
     // requires row { row < self.old.form.rows }
     // requires within { bits ≤ 8 * length self.old.bytes }
+    // ensures { PassesLost self.old row bits result self.new }
     pub(crate) fn pass_lost(&mut self, row: u32, bits: u64) -> u32 {
-        bits_stand_by_place();
         let rows = self.form.rows;
         let mut start = BitSource::new(self.bytes, self.form.order);
         start.skip(bits);
@@ -275,8 +285,9 @@ impl<'a> StripReader<'a> {
     /// How rows that nobody counted end before the row that is due, whose form has the most rows
     /// that a strip has, `MOST_ROWS`: after a fault with that one, if not well.
     #[cold]
+    // ensures { EndsSo self.now.form.coding self.now.row (bits_left self.now) self.now.fault
+    //     result }
     pub(crate) fn uncounted_end(&self) -> RowsEnd {
-        bits_stand_by_place();
         let mut source = BitSource::new(self.bytes, self.form.order);
         source.skip(self.place);
         end_of_rows(&source, self.form.coding, self.row, self.fault)
@@ -284,18 +295,21 @@ impl<'a> StripReader<'a> {
 
     /// How many bits of the strip stand before the row that is due. After a fault they are what
     /// they were before that call.
+    // ensures place { result ≡ self.now.place }
+    // ensures within { result ≤ 8 * length self.now.bytes }
     pub fn bit_place(&self) -> u64 {
         self.place
     }
 
     /// How many bits of the strip are left from the row that is due on.
+    // ensures { result ≡ length (bits_left self.now) }
     pub(crate) fn bits_due(&self) -> u64 {
-        bits_stand_by_place();
         8 * self.bytes.len() as u64 - self.place
     }
 
     /// How many rows were read since `new`, over all restarts, up to the greatest number of 64
     /// bits.
+    // ensures { result ≡ self.now.read }
     pub fn rows_read(&self) -> u64 {
         // A row adds one to `row` alone: what was read before is added up where a strip is begun. A
         // walk adds what was read before its page, and counts itself only what it handed out.

@@ -1,3 +1,4 @@
+// Made by tools/plain-rust of crates/fax_page/src/rows_in_turn.rt: change that.
 //! The two rows of a strip that is read: a row and the row before it.
 
 use crate::lines::{LineStop, read_codes, read_start, take_white};
@@ -8,6 +9,8 @@ use kit_std::marker::Model;
 
 /// Whether some row of this width is the one before a place.
 // requires some { 0 < width }
+// ensures row { IsTrue result → (row : List Colour) × IsBefore width before.entry row }
+// ensures none { result ≡ false → (row : List Colour) → IsBefore width before.entry row → ⊥ }
 pub(crate) fn is_row(before: RowBefore, width: u32) -> bool {
     match before {
         RowBefore::White => true,
@@ -32,6 +35,7 @@ impl RowsInTurn {
     /// Before the first row, whose reference is white.
     // requires some { 0 < width }
     // requires short { width < 65536 }
+    // ensures { IfOk result (λ rows. rows ≡ white_row width) }
     pub fn new(alloc: Global, width: u32) -> Result<Self, Memory> {
         let first = Row::white(alloc, width)?;
         let second = Row::white(alloc, width)?;
@@ -44,6 +48,7 @@ impl RowsInTurn {
 
     /// The reference of the next row.
     #[inline(always)]
+    // ensures { result.now ≡ self.now }
     pub fn reference(&self) -> &Row {
         if self.is_turned {
             &self.second
@@ -53,6 +58,7 @@ impl RowsInTurn {
     }
 
     /// Goes before a first row again.
+    // ensures { self.new ≡ white_row (length self.old) }
     pub fn whiten_reference(&mut self) {
         self.is_turned = false;
         self.first.whiten();
@@ -60,6 +66,7 @@ impl RowsInTurn {
 
     /// Takes the pels of a row of the same width as the reference.
     // requires { length row.now ≡ length self.old }
+    // ensures { self.new ≡ row.now }
     pub fn set_reference(&mut self, row: &Row) {
         self.is_turned = false;
         self.first.set_from(row);
@@ -67,6 +74,10 @@ impl RowsInTurn {
 
     /// Goes after this row, which is the reference then, and answers whether there is one. Where
     /// there is none, nothing is said of the reference.
+    // ensures begun { IsTrue result → IsBefore (length self.old) before.entry self.new }
+    // ensures same_width { length self.new ≡ length self.old }
+    // ensures none { result ≡ false → (row : List Colour)
+    //     → IsBefore (length self.old) before.entry row → ⊥ }
     pub fn begin_after(&mut self, before: RowBefore) -> bool {
         self.is_turned = false;
         match before {
@@ -81,6 +92,13 @@ impl RowsInTurn {
     /// Reads the codes of a row that is coded so, which is the reference then. Where it cannot be
     /// read, the reference stays.
     #[inline(always)]
+    // ensures ok { OnOk result (IsRowIn dimension (length self.old) self.old
+    //     source.old.left self.new source.new.left) }
+    // ensures err { IfErr result
+    //     (IsRowFaultIn dimension (length self.old) self.old source.old.left) }
+    // ensures kept { OnErr result (self.new ≡ self.old) }
+    // ensures same_width { length self.new ≡ length self.old }
+    // ensures same_end { KeepsEnd source.old source.new }
     fn read_codes(&mut self, source: &mut BitSource, dimension: Dimension) -> Result<(), RowFault> {
         if self.is_turned {
             read_codes(source, dimension, &self.second, &mut self.first)?;
@@ -96,6 +114,12 @@ impl RowsInTurn {
     #[inline(always)]
     // requires width { length self.old ≡ form.width }
     // requires some_pels { 0 < form.width }
+    // ensures ok { OnOk result
+    //     (IsLine form i self.old source.old.left self.new source.new.left) }
+    // ensures err { IfErr result (IsLineStop form i self.old source.old.left) }
+    // ensures kept { OnErr result (self.new ≡ self.old) }
+    // ensures same_width { length self.new ≡ length self.old }
+    // ensures same_end { KeepsEnd source.old source.new }
     pub fn read(&mut self, source: &mut BitSource, form: StripForm, i: u32) -> Result<(), LineStop> {
         let dimension = match read_start(source, form.coding, i) {
             Ok(dimension) => dimension,

@@ -1,3 +1,4 @@
+// Made by tools/plain-rust of crates/fax_page/src/salvage_reader.rt: change that.
 //! What is left of a damaged strip: the rows that stand between its EOLs.
 
 use crate::reader::StripReader;
@@ -41,6 +42,7 @@ impl<'a> SalvageReader<'a> {
     /// Before the row that is due in a strip, of which no fault was told, and no row before it is
     /// lost.
     // requires { reader.fault ≡ None }
+    // ensures { result ≡ salvaging reader.entry None }
     fn of(reader: StripReader<'a>) -> Self {
         SalvageReader {
             reader,
@@ -56,6 +58,7 @@ impl<'a> SalvageReader<'a> {
     /// `Memory` where a growth was refused.
     // requires count { length bytes.now ≤ 4294967295 }
     // requires limits { IsStripForm form }
+    // ensures { IfOk result (λ s. s ≡ salvage_beginning form (bits form.order bytes.now)) }
     pub fn new(alloc: Global, bytes: &'a [u8], form: StripForm) -> Result<Self, Memory> {
         Ok(SalvageReader::of(StripReader::new(alloc, bytes, form)?))
     }
@@ -71,6 +74,7 @@ impl<'a> SalvageReader<'a> {
     // requires count { length bytes.now ≤ 4294967295 }
     // requires limits { IsStripForm form }
     // requires due { row < form.rows }
+    // ensures { IsSalvageInside form bytes.now row bits before.entry result }
     pub fn inside(
         alloc: Global,
         bytes: &'a [u8],
@@ -88,6 +92,8 @@ impl<'a> SalvageReader<'a> {
     // requires count { length bytes.now ≤ 4294967295 }
     // requires some { 0 < rows }
     // requires few { rows ≤ most_rows }
+    // ensures { self.new ≡ salvage_beginning (record self.old.form { rows = rows })
+    //     (bits self.old.form.order bytes.now) }
     pub fn restart(&mut self, bytes: &'a [u8], rows: u32) {
         self.reader.restart(bytes, rows);
         self.before = None;
@@ -96,6 +102,7 @@ impl<'a> SalvageReader<'a> {
     /// What became of the row that is due, or `None` after the last one. It takes no memory. A row
     /// that is found is the reference then.
     #[inline(always)]
+    // ensures { IsSalvageStep self.old result self.new }
     pub fn next_salvaged(&mut self) -> Option<Salvaged> {
         let place = self.reader.bit_place();
         let row = self.reader.row();
@@ -124,6 +131,7 @@ impl<'a> SalvageReader<'a> {
 
     /// Why the row before the one that is due is lost, where that one is coded over it.
     #[inline(always)]
+    // ensures { IsOverLost self.now result }
     fn over_lost(&self) -> Option<StripFault> {
         let fault = self.before?;
         if self.reader.begins_two_dimensional() {
@@ -135,22 +143,27 @@ impl<'a> SalvageReader<'a> {
 
     /// How rows that nobody counted end before the row that is due, or that they do not, `TooMany`.
     #[inline(always)]
+    // ensures { EndsSo self.now.form.coding self.now.row self.now.due None result }
     pub(crate) fn rows_end(&self) -> RowsEnd {
         self.reader.uncounted_end()
     }
 
     /// How many bits of the strip are left from the row that is due on.
+    // ensures { result ≡ length self.now.due }
     pub fn bits_due(&self) -> u64 {
         self.reader.bits_due()
     }
 
     /// The row that was found last, or a white one: the reference of the row that is due.
+    // ensures pels { result.now ≡ self.now.reference }
+    // ensures width { length result.now ≡ self.now.form.width }
     pub fn reference(&self) -> &Row {
         self.reader.reference()
     }
 
     /// The number of the row that is due in its strip, from 0, or how many rows the strip has, once
     /// it is gone through.
+    // ensures { result ≡ self.now.row }
     pub fn row(&self) -> u32 {
         self.reader.row()
     }

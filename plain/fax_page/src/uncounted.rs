@@ -1,3 +1,4 @@
+// Made by tools/plain-rust of crates/fax_page/src/uncounted.rt: change that.
 //! How rows end that nobody counted.
 
 use crate::lines::read_eol;
@@ -6,6 +7,8 @@ use crate::{Coding, RowsEnd, StripFault};
 use fax_rows::BitSource;
 
 /// Whether after so many rows, and at least one, nothing but fill is left.
+// ensures ends { IsTrue result → Spec.HasDataEnd rows source.now.left }
+// ensures more { result ≡ false → Spec.HasDataEnd rows source.now.left → ⊥ }
 fn has_data_end(source: &BitSource, rows: u32) -> bool {
     if rows == 0 {
         return false;
@@ -30,6 +33,7 @@ enum MarkEol {
 /// Goes after an EOL of a return to control, and answers what stands where it is due (T.4, sections
 /// 4.1.4 and 4.2.4).
 // requires with_eols { coding ≢ Mmr }
+// ensures { Code.IsMarkEol coding source.old.left result source.new.left }
 fn take_mark_eol(source: &mut BitSource, coding: Coding) -> MarkEol {
     if let Err(fault) = read_eol(source, false) {
         return if fault == StripFault::DataEnds {
@@ -49,6 +53,8 @@ fn take_mark_eol(source: &mut BitSource, coding: Coding) -> MarkEol {
 /// Whether a return to control stands at a source, or may where more bits follow (T.4, section
 /// 4.1.4).
 // requires with_eols { coding ≢ Mmr }
+// ensures may { IsTrue result → Code.MayHaveReturn coding source.now.left }
+// ensures never { result ≡ false → Code.MayHaveReturn coding source.now.left → ⊥ }
 fn may_be_return_to_control(source: &BitSource, coding: Coding) -> bool {
     let mut ahead = source.again();
     for _eol in 0..RETURN_EOLS {
@@ -65,6 +71,8 @@ fn may_be_return_to_control(source: &BitSource, coding: Coding) -> bool {
 /// End-of-facsimile block).
 #[cold]
 #[inline(never)]
+// ensures may { IsTrue result → Spec.MayHaveEndMark coding source.now.left }
+// ensures never { result ≡ false → Spec.MayHaveEndMark coding source.now.left → ⊥ }
 pub fn may_be_end_mark(source: &BitSource, coding: Coding) -> bool {
     match coding {
         Coding::Mh | Coding::Mr => may_be_return_to_control(source, coding),
@@ -81,6 +89,7 @@ pub fn may_be_end_mark(source: &BitSource, coding: Coding) -> bool {
 /// in the way of the next row, or none is, since they are as many as a strip has at most.
 #[cold]
 #[inline(never)]
+// ensures { Spec.EndsSo coding rows source.now.left fault result }
 pub fn end_of_rows(
     source: &BitSource,
     coding: Coding,

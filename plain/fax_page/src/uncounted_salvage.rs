@@ -1,3 +1,4 @@
+// Made by tools/plain-rust of crates/fax_page/src/uncounted_salvage.rt: change that.
 //! What is left of rows that nobody counted, where they are damaged.
 
 use crate::salvage_reader::{SalvageReader, Salvaged};
@@ -19,6 +20,7 @@ pub struct UncountedSalvage<'a> {
 impl<'a> Model for UncountedSalvage<'a> {}
 
 /// What became of a row, and of no other, of those that are lost with it.
+// ensures { result ≡ Code.alone salvaged }
 fn alone(salvaged: Salvaged) -> Salvaged {
     match salvaged {
         Salvaged::Found => Salvaged::Found,
@@ -28,6 +30,7 @@ fn alone(salvaged: Salvaged) -> Salvaged {
 }
 
 /// Why a row is lost, if it is.
+// ensures { result ≡ Code.fault_of salvaged }
 fn fault_of(salvaged: Salvaged) -> Option<StripFault> {
     match salvaged {
         Salvaged::Found => None,
@@ -37,6 +40,7 @@ fn fault_of(salvaged: Salvaged) -> Option<StripFault> {
 }
 
 /// The fault with which the rows end after one that was passed, where there may be no more.
+// ensures { Code.IsOverAfter reader.now salvaged result }
 fn over_after(reader: &SalvageReader, salvaged: Salvaged) -> Option<StripFault> {
     if reader.row() == MOST_ROWS {
         fault_of(salvaged)
@@ -54,6 +58,7 @@ impl<'a> UncountedSalvage<'a> {
     /// `Memory` where a growth was refused.
     // requires count { length bytes.now ≤ 4294967295 }
     // requires limits { IsStripForm form }
+    // ensures { IfOk result (λ s. s ≡ uncounted_beginning form (bits form.order bytes.now)) }
     pub fn new(alloc: Global, bytes: &'a [u8], form: StripForm) -> Result<Self, Memory> {
         let most = StripForm {
             rows: MOST_ROWS,
@@ -70,6 +75,8 @@ impl<'a> UncountedSalvage<'a> {
     /// Goes before the first row of other bytes, at most 4,294,967,295, with rows of the same
     /// coding, order and width. It takes no memory.
     // requires { length bytes.now ≤ 4294967295 }
+    // ensures { self.new ≡ uncounted_beginning self.old.strip.form
+    //     (bits self.old.strip.form.order bytes.now) }
     pub fn restart(&mut self, bytes: &'a [u8]) {
         self.reader.restart(bytes, MOST_ROWS);
         self.row = 0;
@@ -82,6 +89,7 @@ impl<'a> UncountedSalvage<'a> {
     /// # Errors
     ///
     /// How the rows end, where none is due. Each later call answers the same.
+    // ensures { IsUncountedStep self.old result self.new }
     pub fn next_salvaged(&mut self) -> Result<Salvaged, RowsEnd> {
         if let Some(fault) = self.over {
             return Err(RowsEnd::Fault(fault));
@@ -99,8 +107,9 @@ impl<'a> UncountedSalvage<'a> {
     }
 
     /// Passes all rows that are left, and answers how they end. It takes no memory.
+    // ensures { PassesAll self.old result self.new }
     pub fn pass_all(&mut self) -> RowsEnd {
-        'rows: loop {
+        loop {
             if let Err(end) = self.next_salvaged() {
                 return end;
             }
@@ -108,11 +117,15 @@ impl<'a> UncountedSalvage<'a> {
     }
 
     /// The row that was found last, or a white one.
+    // ensures pels { result.now ≡ self.now.strip.reference }
+    // ensures width { length result.now ≡ self.now.strip.form.width }
     pub fn reference(&self) -> &Row {
         self.reader.reference()
     }
 
     /// How many rows were passed, at most 1,000,000.
+    // ensures row { result ≡ self.now.row }
+    // ensures few { result ≤ most_rows }
     pub fn row(&self) -> u32 {
         self.row
     }

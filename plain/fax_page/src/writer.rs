@@ -1,3 +1,4 @@
+// Made by tools/plain-rust of crates/fax_page/src/writer.rt: change that.
 //! A writer of strips.
 
 use kit_std::prelude::Vec;
@@ -16,6 +17,7 @@ const EOL_BITS: u32 = 12;
 /// How row `i` of a strip is written: in MR one-dimensional exactly where `i` is a multiple of `k`
 /// (T.4, section 4.2.1.1).
 // requires { 0 < k }
+// ensures { result ≡ Coded.written_dimension coding k i }
 fn written_dimension(coding: Coding, k: u32, i: u32) -> Dimension {
     match coding {
         Coding::Mh => Dimension::OneDimensional,
@@ -27,6 +29,8 @@ fn written_dimension(coding: Coding, k: u32, i: u32) -> Dimension {
 /// How many zeros of fill stand before an EOL after so many bits of a strip: where EOLs are
 /// aligned the fewest that make it end on a byte boundary, and else none (T.4, section 4.1.3; TIFF
 /// 6.0, T4Options).
+// ensures exact { result ≡ Coded.fill_zeros aligned before }
+// ensures few { result < 8 }
 fn fill_zeros(aligned: bool, before: u128) -> u32 {
     // The first EOL of a strip is aligned too, to the strip's own bytes: four zeros stand before
     // it.
@@ -41,6 +45,9 @@ fn fill_zeros(aligned: bool, before: u128) -> u32 {
 /// Puts what stands before a row's codes: an EOL in MH, an EOL and a tag bit in MR, both after
 /// fill where EOLs are aligned, nothing in MMR (T.4, sections 4.1.2, 4.1.3 and 4.2.2; T.6, section
 /// 2.2.1).
+// ensures ok { OnOk result (Appends sink.old
+//     (Coded.start_bits form.coding form.aligned (length sink.old.bits) dimension) sink.new) }
+// ensures same_order { sink.new.order ≡ sink.old.order }
 fn put_start(sink: &mut BitSink, form: StripForm, dimension: Dimension) -> Result<(), Memory> {
     // Fill is put with its EOL in one call, so that MMR, which has no EOLs, has no fill.
     let fill = fill_zeros(form.aligned, sink.len());
@@ -54,6 +61,9 @@ fn put_start(sink: &mut BitSink, form: StripForm, dimension: Dimension) -> Resul
 
 /// Puts the codes of a row that T.4 chooses where it is coded so.
 // requires same_width { length reference.now ≡ length row.now }
+// ensures ok { OnOk result
+//     (Appends sink.old (Coded.row_bits dimension reference.now row.now) sink.new) }
+// ensures same_order { sink.new.order ≡ sink.old.order }
 pub(crate) fn put_codes(
     sink: &mut BitSink,
     dimension: Dimension,
@@ -69,6 +79,10 @@ pub(crate) fn put_codes(
 /// Puts a row that is coded so over the row before it: what stands before its codes, and its codes
 /// in T.4's own choice.
 // requires same_width { length reference.now ≡ length row.now }
+// ensures ok { OnOk result (Appends sink.old
+//     (Coded.start_bits form.coding form.aligned (length sink.old.bits) dimension
+//     ++ Coded.row_bits dimension reference.now row.now) sink.new) }
+// ensures same_order { sink.new.order ≡ sink.old.order }
 fn put_line(
     sink: &mut BitSink,
     form: StripForm,
@@ -82,6 +96,8 @@ fn put_line(
 
 /// Puts what stands after a strip's last row: the end of the facsimile block in MMR, two EOLs
 /// (T.6, End-of-facsimile block).
+// ensures ok { OnOk result (Appends sink.old (Coded.end_bits coding) sink.new) }
+// ensures same_order { sink.new.order ≡ sink.old.order }
 fn put_end(sink: &mut BitSink, coding: Coding) -> Result<(), Memory> {
     match coding {
         Coding::Mh | Coding::Mr => Ok(()),
@@ -90,7 +106,8 @@ fn put_end(sink: &mut BitSink, coding: Coding) -> Result<(), Memory> {
 }
 
 /// Each byte is below 256, which is said for the proof of `finish` and does nothing.
-fn are_bytes(bytes: &[u8]) {}
+// ensures { All (λ byte. byte < 256) bytes.now }
+fn are_bytes(_bytes: &[u8]) {}
 
 /// Writes a strip row by row. Contracts see how far it is written: its form and k, its bits, how
 /// many rows were put, the last of them, and whether memory was refused.
@@ -116,6 +133,7 @@ impl StripWriter {
     /// `Memory` where a growth was refused.
     // requires limits { IsStripForm form }
     // requires some_k { 0 < k }
+    // ensures { IfOk result (λ writer. writer ≡ writer_beginning form k) }
     pub fn new(alloc: Global, form: StripForm, k: u32) -> Result<Self, Memory> {
         let last = Row::white(alloc, form.width)?;
         Ok(StripWriter {
@@ -136,6 +154,7 @@ impl StripWriter {
     /// `Memory` where a growth was refused, and at each later call.
     // requires due { self.old.row < self.old.form.rows }
     // requires width { length row.now ≡ self.old.form.width }
+    // ensures { IsPutRow self.old row.now result self.new }
     pub fn put_row(&mut self, row: &Row) -> Result<(), Memory> {
         if self.refused {
             return Err(Memory);
@@ -161,8 +180,8 @@ impl StripWriter {
     ///
     /// `Memory` where a growth was refused, here or before.
     // requires all_put { self.refused ≡ false → self.row ≡ self.form.rows }
+    // ensures { IfOk result (λ bytes. FinishesAs self bytes.items) }
     pub fn finish(self) -> Result<Vec<u8>, Memory> {
-        fax_bits::laws::bits_are_packed_in_one_way();
         if self.refused {
             return Err(Memory);
         }

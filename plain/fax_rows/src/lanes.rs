@@ -1,14 +1,15 @@
+// Made by tools/plain-rust of crates/fax_rows/src/lanes.rt: change that.
 //! The first pel of packed bytes that is not of a colour, and whether bytes are white, found in
 //! lanes.
 
 use fax_bits::Colour;
-use fax_bits::laws::bits_stand_by_place;
 use kit_std::simd::prelude::*;
 
 /// How many bytes are looked at together for the first that is another one.
 const LANES: usize = 16;
 
 /// The byte of eight pels of the colour.
+// ensures { result ≡ plain_byte colour }
 pub(crate) fn plain_byte(colour: Colour) -> u8 {
     match colour {
         Colour::White => 0x00,
@@ -17,6 +18,7 @@ pub(crate) fn plain_byte(colour: Colour) -> u8 {
 }
 
 /// The bits of a byte that are not of the colour.
+// ensures { result ≡ others byte colour }
 fn others(byte: u8, colour: Colour) -> u8 {
     match colour {
         Colour::White => byte,
@@ -26,6 +28,7 @@ fn others(byte: u8, colour: Colour) -> u8 {
 
 /// The least place from `from` on of a byte's bits, highest first, that is not of the colour, or 8.
 // requires { from < 8 }
+// ensures { result ≡ first_other_in_byte byte from colour }
 fn first_other_in_byte(byte: u8, from: u32, colour: Colour) -> u32 {
     let ahead = others(byte, colour) << from;
     if ahead == 0 {
@@ -38,14 +41,15 @@ fn first_other_in_byte(byte: u8, from: u32, colour: Colour) -> u32 {
 /// Whether the 64 bytes from a place on are white.
 #[inline(always)]
 // requires { at + 64 ≤ length bytes.now }
+// ensures { IsTrue result → AreWhite (bits MsbFirst bytes.now) (8 * at) (8 * (at + 64)) }
 pub(crate) fn are_white(bytes: &[u8], at: usize) -> bool {
-    bits_stand_by_place();
     let lanes = u8x64::from_slice(&bytes[at..]);
     lanes.simd_ne(u8x64::splat(0)).to_bitmask() == 0
 }
 
 /// The first of the bytes from `from` on that is not `plain`, or the place after them all.
 // requires { from ≤ length bytes.now }
+// ensures { IsFirstOtherByte bytes.now from plain result }
 fn first_other_of_rest(bytes: &[u8], from: usize, plain: u8) -> usize {
     for at in from..bytes.len() {
         if bytes[at] != plain {
@@ -57,6 +61,7 @@ fn first_other_of_rest(bytes: &[u8], from: usize, plain: u8) -> usize {
 
 /// The first of the bytes from `from` on that is not `plain`, or the place after them all.
 // requires { from ≤ length bytes.now }
+// ensures { IsFirstOtherByte bytes.now from plain result }
 fn first_other_byte(bytes: &[u8], from: usize, plain: u8) -> usize {
     let mut at = from;
     while bytes.len() - at >= LANES {
@@ -75,8 +80,8 @@ fn first_other_byte(bytes: &[u8], from: usize, plain: u8) -> usize {
 /// bytes are given, and `from` is no further than the place after their bits. It takes no memory.
 // requires count { length bytes.now ≤ 4294967295 }
 // requires within { from ≤ 8 * length bytes.now }
+// ensures { result ≡ Spec.first_other bytes.now from colour }
 pub fn first_other(bytes: &[u8], from: u64, colour: Colour) -> u64 {
-    bits_stand_by_place();
     let at = (from / 8) as usize;
     if at == bytes.len() {
         return from;

@@ -1,10 +1,10 @@
+// Made by tools/plain-rust of crates/fax_rows/src/lib.rt: change that.
 //! Rows of fax pages, read and written in one-dimensional and two-dimensional coding (ITU-T T.4 and
 //! T.6).
 #![forbid(unsafe_code)]
 
 mod changing_elements;
 mod lanes;
-pub mod laws;
 mod longest_runs;
 mod one_dimensional;
 mod ones;

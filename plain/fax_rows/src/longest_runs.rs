@@ -1,8 +1,8 @@
+// Made by tools/plain-rust of crates/fax_rows/src/longest_runs.rt: change that.
 //! The longest runs of a row, one after another (ITU-T T.4, section 4.1.1).
 
 use crate::pels::Row;
 use crate::turns::turn;
-use fax_bits::Colour;
 use kit_std::marker::Model;
 use kit_std::simd::prelude::*;
 
@@ -19,6 +19,7 @@ impl<'a> Model for LongestRuns<'a> {}
 
 impl<'a> LongestRuns<'a> {
     /// All runs of the row, white first: the first one has no pels where the row begins black.
+    // ensures { result ≡ runs_of row.now }
     pub fn of_row(row: &'a Row) -> Self {
         LongestRuns {
             places: &row.places[..row.end + 1],
@@ -26,12 +27,17 @@ impl<'a> LongestRuns<'a> {
     }
 
     /// How many runs are still to come.
+    // ensures count { result ≡ length self.now }
+    // ensures few { result ≤ 2 ^ 16 }
     pub fn len(&self) -> usize {
         self.places.len() - 1
     }
 
     /// How many pels the next run has. `None` where no run is left.
     #[inline(always)]
+    // ensures first { MatchOption result (self.old ≡ []) (λ n. self.old ≡ n ∷ self.new) }
+    // ensures none_left { IfNone result (self.new ≡ []) }
+    // ensures short { IfSome result (λ n. n < 2 ^ 16) }
     pub fn next_run(&mut self) -> Option<u32> {
         if self.places.len() < 2 {
             return None;
@@ -44,6 +50,8 @@ impl<'a> LongestRuns<'a> {
     /// How many pels each of the next eight runs has; they are still to come. `None` where fewer
     /// are left.
     #[inline(always)]
+    // ensures { MatchOption result (length self.now < 8)
+    //     (λ runs. (runs ≡ take 8 self.now) × (8 ≤ length self.now)) }
     pub fn eight_ahead(&self) -> Option<[u16; 8]> {
         // The text of `rows` is written by eight runs at a time. `skip` leaves out those that are
         // written.
@@ -58,12 +66,14 @@ impl<'a> LongestRuns<'a> {
     /// Leaves out so many of the next runs, at most all of them.
     #[inline(always)]
     // requires { count ≤ length self.old }
+    // ensures { self.new ≡ drop count self.old }
     pub fn skip(&mut self, count: usize) {
         self.places = &self.places[count..];
     }
 }
 
 /// Whether these are the longest runs of a row of this width.
+// ensures { IsTrue result ↔ AreLongest runs.now width }
 pub(crate) fn are_longest(runs: &[u32], width: u32) -> bool {
     let mut left = width;
     for (i, n) in runs.iter().enumerate() {
@@ -79,7 +89,9 @@ pub(crate) fn are_longest(runs: &[u32], width: u32) -> bool {
 // requires short { width < 2 ^ 16 }
 // requires room { HasRoom width places.old }
 // requires whole { sum runs.now ≡ width }
-pub(crate) fn put_runs(places: &mut [u32], runs: &[u32], width: u32) -> usize {
+// ensures pels { row_of places.new result width ≡ pels_of Colour.White runs.now }
+// ensures put { ArePut width places.new result width }
+pub(crate) fn put_runs(places: &mut [u32], runs: &[u32], _width: u32) -> usize {
     let mut end = 1;
     let mut total = 0;
     for n in runs {

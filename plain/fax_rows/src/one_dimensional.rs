@@ -1,3 +1,4 @@
+// Made by tools/plain-rust of crates/fax_rows/src/one_dimensional.rt: change that.
 //! Rows in one-dimensional coding (ITU-T T.4, section 4.1.1).
 
 use crate::RowFault;
@@ -21,6 +22,10 @@ impl RunsSoFar {
     /// Sees that a run after them may be one of the longest: it has pels, or is the first of its
     /// row. Else the codes are not those that T.4 chooses (T.4, section 4.1.1).
     #[inline(always)]
+    // ensures chosen { IsTrue self.new.is_chosen → IsTrue self.old.is_chosen
+    //     × ((0 < run) ⊎ ((self.old.total ≡ 0) × (colour ≡ Colour.White))) }
+    // ensures end { self.new.end ≡ self.old.end }
+    // ensures total { self.new.total ≡ self.old.total }
     fn see(&mut self, colour: Colour, run: u32) {
         if run == 0 && (self.total > 0 || colour == Colour::Black) {
             self.is_chosen = false;
@@ -32,6 +37,16 @@ impl RunsSoFar {
 #[inline(always)]
 // requires short { width < 2 ^ 16 }
 // requires within { runs.old.total ≤ width }
+// ensures run { IfOk result (λ n. IsRun colour ahead.old.left n ahead.new.left) }
+// ensures within { IfOk result (λ n. runs.old.total + n ≤ width) }
+// ensures chosen { IfOk result (λ n. IsTrue runs.new.is_chosen → IsTrue runs.old.is_chosen
+//     × (ahead.old.left ≡ run_bits colour n ++ ahead.new.left)) }
+// ensures err { IfErr result
+//     (λ fault. IsRunFault colour width runs.old.total ahead.old.left fault) }
+// ensures end { runs.new.end ≡ runs.old.end }
+// ensures total { runs.new.total ≡ runs.old.total }
+// ensures same_end { KeepsEnd ahead.old ahead.new }
+// ensures shorter { OnOk result (length ahead.new.left < length ahead.old.left) }
 fn next_run(
     ahead: &mut BitSource,
     colour: Colour,
@@ -51,6 +66,21 @@ fn next_run(
 // requires short { width < 2 ^ 16 }
 // requires unfinished { runs.old.total < width }
 // requires put { ArePut width places.old runs.old.end runs.old.total }
+// ensures put { OnOk result (ArePut width places.new runs.new.end runs.new.total) }
+// ensures turned { OnOk result
+//     (TurnsAt places.old places.new runs.old.end runs.new.end runs.new.total) }
+// ensures run { OnOk result
+//     (IsRun colour ahead.old.left (runs.new.total - runs.old.total) ahead.new.left) }
+// ensures right { OnOk result (runs.old.total ≤ runs.new.total) }
+// ensures chosen { OnOk result (IsTrue runs.new.is_chosen → IsTrue runs.old.is_chosen
+//     × (ahead.old.left ≡ run_bits colour (runs.new.total - runs.old.total) ++ ahead.new.left)
+//     × ((0 < runs.new.total - runs.old.total)
+//     ⊎ ((runs.old.total ≡ 0) × (colour ≡ Colour.White)))) }
+// ensures err { IfErr result
+//     (λ fault. IsRunFault colour width runs.old.total ahead.old.left fault) }
+// ensures room { HasRoom width places.new }
+// ensures same_end { KeepsEnd ahead.old ahead.new }
+// ensures shorter { OnOk result (length ahead.new.left < length ahead.old.left) }
 fn put_next_run(
     ahead: &mut BitSource,
     places: &mut [u32],
@@ -70,10 +100,17 @@ fn put_next_run(
 // requires some { 0 < width }
 // requires short { width < 2 ^ 16 }
 // requires room { HasRoom width places.old }
+// ensures ok { IfOk result (λ runs. IsOneDimensionalRow width source.old.left
+//     (row_of places.new runs.end width) source.new.left) }
+// ensures chosen { IfOk result (λ runs. IsTrue runs.is_chosen → source.old.left
+//     ≡ one_dimensional_bits (row_of places.new runs.end width) ++ source.new.left) }
+// ensures put { IfOk result (λ runs. ArePut width places.new runs.end width) }
+// ensures err { IfErr result (λ fault. IsOneDimensionalFault width source.old.left fault) }
+// ensures room { HasRoom width places.new }
+// ensures same_end { KeepsEnd source.old source.new }
 fn read_runs(source: &mut BitSource, places: &mut [u32], width: u32) -> Result<RunsSoFar, RowFault> {
     // One reader serves those who ask whether the codes are T.4's choice and those who do not: to
     // see it costs nothing where no run is empty.
-    crate::laws::one_dimensional_rows_are_read_as_nothing_else();
     let mut ahead = source.again();
     let mut runs = RunsSoFar {
         end: 1,
@@ -103,6 +140,13 @@ fn read_runs(source: &mut BitSource, places: &mut [u32], width: u32) -> Result<R
 /// # Errors
 ///
 /// The fault of the first code that is no part of the row. Nothing else is said of the row then.
+// ensures ok { OnOk result
+//     (IsOneDimensionalRow (length row.old) source.old.left row.new source.new.left) }
+// ensures err { IfErr result
+//     (λ fault. IsOneDimensionalFault (length row.old) source.old.left fault) }
+// ensures same_width { length row.new ≡ length row.old }
+// The source goes on in the same bits.
+// ensures same_end { KeepsEnd source.old source.new }
 pub fn read_1d(source: &mut BitSource, row: &mut Row) -> Result<(), RowFault> {
     read_1d_choice(source, row)?;
     Ok(())
@@ -115,6 +159,15 @@ pub fn read_1d(source: &mut BitSource, row: &mut Row) -> Result<(), RowFault> {
 ///
 /// As for `read_1d`.
 #[inline(never)]
+// ensures ok { OnOk result
+//     (IsOneDimensionalRow (length row.old) source.old.left row.new source.new.left) }
+// ensures chosen { IfOk result (λ chosen. IsTrue chosen
+//     → source.old.left ≡ one_dimensional_bits row.new ++ source.new.left) }
+// ensures err { IfErr result
+//     (λ fault. IsOneDimensionalFault (length row.old) source.old.left fault) }
+// ensures same_width { length row.new ≡ length row.old }
+// The source goes on in the same bits.
+// ensures same_end { KeepsEnd source.old source.new }
 pub fn read_1d_choice(source: &mut BitSource, row: &mut Row) -> Result<bool, RowFault> {
     let width = row.width;
     let places = row.places.as_mut_slice();

@@ -1,3 +1,4 @@
+// Made by tools/plain-rust of crates/fax_rows/src/ones.rt: change that.
 //! The places of the ones in a word, by a table of those in a byte, which the check proves right.
 
 use kit_std::simd::prelude::*;
@@ -36,6 +37,9 @@ static PLACES: [u8; 2048] = places!([0 0 0 0 0 0 0 0] 7 6 5 4 3 2 1 0);
 #[inline(always)]
 // requires room { end + 8 ≤ length places.old }
 // requires short { from + 8 < 2 ^ 32 }
+// ensures put { take result places.new ≡ take end places.old ++ ones_among from 7 byte 8 }
+// ensures within { result ≤ end + 8 }
+// ensures same_len { length places.new ≡ length places.old }
 fn put_ones_of_byte(places: &mut [u32], end: usize, from: u32, byte: u8) -> usize {
     let at = usize::from(byte);
     let ones = u8x8::from_slice(&PLACES[8 * at..]).cast::<u32>();
@@ -48,6 +52,9 @@ fn put_ones_of_byte(places: &mut [u32], end: usize, from: u32, byte: u8) -> usiz
 #[inline(always)]
 // requires room { end + 64 ≤ length places.old }
 // requires short { from + 64 < 2 ^ 32 }
+// ensures put { take result places.new ≡ take end places.old ++ ones_among from 63 word 64 }
+// ensures within { result ≤ end + 64 }
+// ensures same_len { length places.new ≡ length places.old }
 fn put_ones_by_bytes(places: &mut [u32], end: usize, from: u32, word: u64) -> usize {
     // Eight lanes are stored for each byte, of which the next byte's are put over those that do not
     // count. That needs no test for room, since a word has at most 64 changes. A word of fewer than
@@ -65,6 +72,9 @@ fn put_ones_by_bytes(places: &mut [u32], end: usize, from: u32, word: u64) -> us
 #[inline(always)]
 // requires room { end + 64 ≤ length places.old }
 // requires short { from + 64 < 2 ^ 32 }
+// ensures put { take result places.new ≡ take end places.old ++ ones_among from 63 word 64 }
+// ensures within { result ≤ end + 64 }
+// ensures same_len { length places.new ≡ length places.old }
 fn put_ones_one_by_one(places: &mut [u32], end: usize, from: u32, word: u64) -> usize {
     let mut end = end;
     let mut left = word;
@@ -82,6 +92,9 @@ fn put_ones_one_by_one(places: &mut [u32], end: usize, from: u32, word: u64) -> 
 #[inline(always)]
 // requires room { end + 64 ≤ length places.old }
 // requires short { from + 64 < 2 ^ 32 }
+// ensures put { take result places.new ≡ take end places.old ++ ones_among from 63 word 64 }
+// ensures within { result ≤ end + 64 }
+// ensures same_len { length places.new ≡ length places.old }
 pub(crate) fn put_ones(places: &mut [u32], end: usize, from: u32, word: u64) -> usize {
     if word == 0 {
         return end;

@@ -1,3 +1,4 @@
+// Made by tools/plain-rust of crates/fax_rows/src/packed.rt: change that.
 //! Rows as packed bytes, as in a raw PBM (the netpbm format, P4): eight pels in a byte, the
 //! leftmost in its highest bit, where 1 is black.
 
@@ -6,7 +7,6 @@ use crate::pels::Row;
 use crate::placed_rows::PlacedRow;
 use crate::turns::{close, colour_after};
 use crate::unpacked::places_of_bits;
-use fax_bits::laws::{bits_are_packed_in_one_way, bits_stand_by_place};
 use fax_bits::{Colour, Memory};
 use kit_std::alloc::Global;
 
@@ -25,6 +25,8 @@ impl Row {
     // requires some { 0 < width }
     // requires short { width < 2 ^ 16 }
     // requires whole { length bytes.now ≡ Spec.packed_len width }
+    // ensures pels { IfOk result (λ row. row ≡ Spec.unpacked_row width bytes.now) }
+    // ensures same_width { IfOk result (λ row. length row ≡ width) }
     pub fn from_packed(alloc: Global, bytes: &[u8], width: u32) -> Result<Row, Memory> {
         let mut row = Row::white(alloc, width)?;
         row.set_packed(bytes);
@@ -34,6 +36,8 @@ impl Row {
     /// Takes the pels that these bytes hold: pel `i` is black where bit `i` is 1, the highest bit
     /// of each byte first. The bits after the last pel are ignored. It takes no memory.
     // requires { length bytes.now ≡ Spec.packed_len (length self.old) }
+    // ensures pels { self.new ≡ Spec.unpacked_row (length self.old) bytes.now }
+    // ensures same_width { length self.new ≡ length self.old }
     pub fn set_packed(&mut self, bytes: &[u8]) {
         let places = self.places.as_mut_slice();
         let end = places_of_bits(bytes, places, self.width);
@@ -43,6 +47,7 @@ impl Row {
     /// Writes the row's pels as bytes, the highest bit of each first, where 1 is black and the bits
     /// after the last pel are 0. `out` has just as many bytes as that takes.
     // requires { length out.old ≡ Spec.packed_len (length self.now) }
+    // ensures { out.new ≡ Spec.packed_row self.now }
     pub fn to_packed(&self, out: &mut [u8]) {
         pack_row(self.placed(), out);
     }
@@ -50,9 +55,8 @@ impl Row {
 
 /// Writes the pels of a row as bytes, the highest bit of each first.
 // requires { length out.old ≡ Spec.packed_len row.width }
+// ensures { out.new ≡ Spec.packed_row (placed_pels row.entry) }
 fn pack_row(row: PlacedRow, out: &mut [u8]) {
-    bits_stand_by_place();
-    bits_are_packed_in_one_way();
     let words = row.width / WORD;
     let passed = pack_words(row, words, out);
     if row.width % WORD > 0 {
@@ -66,6 +70,10 @@ fn pack_row(row: PlacedRow, out: &mut [u8]) {
 /// Writes so many words of 64 pels, and answers how many places of change are passed after them.
 // requires within { words ≡ row.width / 64 }
 // requires room { 8 * words ≤ length out.old }
+// ensures written { (i : ℕ) → i < 8 * words
+//     → IsPackedByte (placed_pels row.entry) (8 * i) (slice_index out.new i) }
+// ensures so_far { HasPassed row.entry.places.now row.entry.end (64 * words) result }
+// ensures same_len { length out.new ≡ length out.old }
 fn pack_words(row: PlacedRow, words: u32, out: &mut [u8]) -> usize {
     // Words are turned from each change on; those in which no colour changes are filled. The bytes
     // after the last whole word are packed by runs of bits.
@@ -96,6 +104,9 @@ fn pack_words(row: PlacedRow, words: u32, out: &mut [u8]) -> usize {
 /// Writes this byte from a place on up to another.
 // requires order { from ≤ to }
 // requires within { to ≤ length out.old }
+// ensures before { (i : ℕ) → i < from → slice_index out.new i ≡ slice_index out.old i }
+// ensures filled { (i : ℕ) → from ≤ i → i < to → slice_index out.new i ≡ byte }
+// ensures same_len { length out.new ≡ length out.old }
 fn fill(out: &mut [u8], from: usize, to: usize, byte: u8) {
     for at in from..to {
         out[at] = byte;
@@ -109,7 +120,9 @@ fn fill(out: &mut [u8], from: usize, to: usize, byte: u8) {
 // requires inside { to ≤ 64 * k + 64 }
 // requires within { to ≤ row.width }
 // requires so_far { HasPassed row.places.now row.end (64 * k) passed }
-fn word_up_to(row: PlacedRow, k: u32, to: u32, passed: usize) -> (u64, usize) {
+// ensures word { IsWordTo row.entry (64 * k) result.0 result.1 }
+// ensures so_far { HasPassed row.entry.places.now row.entry.end to result.1 }
+fn word_up_to(row: PlacedRow, _k: u32, to: u32, passed: usize) -> (u64, usize) {
     let mut word = match colour_after(passed) {
         Colour::White => 0,
         Colour::Black => u64::MAX,
@@ -125,6 +138,7 @@ fn word_up_to(row: PlacedRow, k: u32, to: u32, passed: usize) -> (u64, usize) {
 /// Word `k` of 64 pels, in which the row ends, with zeros after the last pel.
 // requires last { k ≡ row.width / 64 }
 // requires so_far { HasPassed row.places.now row.end (64 * k) passed }
+// ensures { IsPackedWord (placed_pels row.entry) (64 * k) result }
 fn last_word(row: PlacedRow, k: u32, passed: usize) -> u64 {
     let (word, after) = word_up_to(row, k, row.width, passed);
     match colour_after(after) {

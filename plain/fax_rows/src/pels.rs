@@ -1,3 +1,4 @@
+// Made by tools/plain-rust of crates/fax_rows/src/pels.rt: change that.
 //! A row of pels.
 
 use kit_std::prelude::{Vec, vec};
@@ -23,6 +24,7 @@ impl Model for Row {}
 impl Row {
     /// The row, lent as its places of change.
     #[inline(always)]
+    // ensures { placed_pels result ≡ self.now }
     pub(crate) fn placed(&self) -> PlacedRow<'_> {
         PlacedRow {
             places: &self.places,
@@ -38,6 +40,8 @@ impl Row {
     /// `Memory` where a growth was refused.
     // requires some { 0 < width }
     // requires short { width < 2 ^ 16 }
+    // ensures pels { IfOk result (λ row. row ≡ replicate width Colour.White) }
+    // ensures same_width { IfOk result (λ row. length row ≡ width) }
     pub fn white(alloc: Global, width: u32) -> Result<Row, Memory> {
         let mut places = vec![in alloc; width; width as usize + 4].map_err(|_| Memory)?;
         places[0] = 0;
@@ -49,17 +53,23 @@ impl Row {
     }
 
     /// How many pels the row has.
+    // ensures length { result ≡ length self.now }
+    // Each row has 1 to 65,535 pels.
+    // ensures some { 0 < result }
+    // ensures short { result < 2 ^ 16 }
     pub fn width(&self) -> u32 {
         self.width
     }
 
     /// The pel at place `i`, where 0 is the leftmost.
     // requires { i < length self.now }
+    // ensures { result ≡ pel_of self.now i }
     pub fn pel(&self, i: u32) -> Colour {
         colour_after(places_up_to(&self.places, self.end, i))
     }
 
     /// The changing elements, from left to right (T.4, section 4.2.1.3.1).
+    // ensures { result.now ≡ filter (is_changing self.now) (range_with_len 0 (length self.now)) }
     pub fn changes(&self) -> &[u32] {
         &self.places[1..self.end]
     }
@@ -70,6 +80,7 @@ impl Row {
     /// # Errors
     ///
     /// `Memory` where a growth was refused.
+    // ensures { IfOk result (λ runs. runs.items ≡ runs_of self.now) }
     pub fn runs(&self, alloc: Global) -> Result<Vec<u32>, Memory> {
         let mut runs = Vec::new(alloc);
         let mut ahead = LongestRuns::of_row(self);
@@ -80,6 +91,7 @@ impl Row {
     }
 
     /// Turns white pels black, and black ones white.
+    // ensures { self.new ≡ map other_than self.old }
     pub fn exchange(&mut self) {
         let places = self.places.as_mut_slice();
         self.end = turn_first(places, self.end, self.width);
@@ -87,6 +99,7 @@ impl Row {
 
     /// Takes the pels of a row of the same width. Mostly that row is white.
     // requires { length self.old ≡ length row.now }
+    // ensures { self.new ≡ row.now }
     pub fn set_from(&mut self, row: &Row) {
         if row.end == 1 {
             return self.whiten();
@@ -98,6 +111,10 @@ impl Row {
 
     /// Whether some row of this width has these longest runs, white first.
     // requires some { 0 < width }
+    // ensures row { IsTrue result
+    //     → (row : List Colour) × (length row ≡ width) × (runs_of row ≡ runs.now) }
+    // ensures no_such_row { result ≡ false
+    //     → (row : List Colour) → length row ≡ width → runs_of row ≢ runs.now }
     pub fn has_runs(runs: &[u32], width: u32) -> bool {
         are_longest(runs, width)
     }
@@ -105,6 +122,11 @@ impl Row {
     /// Takes the pels of the row of this width that has these longest runs, white first, and
     /// answers whether there is one. Where there is none, the row stays as it is. It takes no
     /// memory.
+    // ensures set { IsTrue result → runs_of self.new ≡ runs.now }
+    // ensures same_width { length self.new ≡ length self.old }
+    // ensures unchanged { result ≡ false → self.new ≡ self.old }
+    // ensures no_such_row { result ≡ false
+    //     → (row : List Colour) → length row ≡ length self.old → runs_of row ≢ runs.now }
     pub fn set_runs(&mut self, runs: &[u32]) -> bool {
         if !are_longest(runs, self.width) {
             return false;
@@ -117,11 +139,15 @@ impl Row {
 
     /// Whether all pels are white. Then its packed bytes are zeros.
     #[inline(always)]
+    // ensures white { IsTrue result ↔ (self.now ≡ replicate (length self.now) Colour.White) }
+    // ensures zeros { IsTrue result
+    //     → packed_row self.now ≡ replicate (packed_len (length self.now)) 0 }
     pub fn is_white(&self) -> bool {
         self.end == 1
     }
 
     /// Turns all pels white. It takes no memory.
+    // ensures { self.new ≡ replicate (length self.old) Colour.White }
     pub fn whiten(&mut self) {
         // It is public, so that a strip's reader is restarted without memory.
         let places = self.places.as_mut_slice();

@@ -1,3 +1,4 @@
+// Made by tools/plain-rust of crates/fax_rows/src/put_rows.rt: change that.
 //! Rows as they are written, in T.4's own choice of codes (ITU-T T.4, sections 4.1.1 and
 //! 4.2.1.3.3; T.6, section 2.2.4).
 
@@ -13,6 +14,10 @@ use fax_bits::{BitSink, Colour, Memory, ModeCode, PendingBits, SHORT_RUN};
 #[inline(always)]
 // requires first { first < 2 ^ 16 }
 // requires second { second < 2 ^ 16 }
+// ensures ok { IfOk result (λ left. AppendsAllBut sink.old
+//     (pending ++ (run_bits colour first ++ run_bits (other_than colour) second)) left sink.new) }
+// ensures err { OnErr result (AppendsPrefix sink.old
+//     (pending ++ (run_bits colour first ++ run_bits (other_than colour) second)) sink.new) }
 fn put_pair(
     pending: PendingBits,
     sink: &mut BitSink,
@@ -33,6 +38,9 @@ fn put_pair(
 /// # Errors
 ///
 /// `Memory` where a growth was refused. The row's bits were put up to some place then.
+// ensures ok { OnOk result (Appends sink.old (Coded.one_dimensional_bits row.now) sink.new) }
+// ensures err { OnErr result
+//     (AppendsPrefix sink.old (Coded.one_dimensional_bits row.now) sink.new) }
 pub fn put_1d(row: &Row, sink: &mut BitSink) -> Result<(), Memory> {
     let mut runs = LongestRuns::of_row(row);
     let mut pending = PendingBits::none();
@@ -79,6 +87,8 @@ impl ChangesAhead {
     #[inline(always)]
     // requires places { Spec.IsWrittenTo rows at }
     // requires unfinished { unwrap_or at.a0 0 < rows.row.width }
+    // ensures places { Spec.AreAhead rows.entry result }
+    // ensures start { result.a0 ≡ at.a0 }
     fn of(rows: RowPair, at: WrittenTo) -> ChangesAhead {
         ChangesAhead {
             a0: at.a0,
@@ -96,7 +106,9 @@ impl ChangesAhead {
     #[inline(always)]
     // requires places { Spec.AreAhead rows self }
     // requires left { self.b2 < self.a1 }
-    fn after_pass(self, rows: RowPair) -> WrittenTo {
+    // ensures places { Spec.IsWrittenTo rows.entry result }
+    // ensures start { result.a0 ≡ Some self.b2 }
+    fn after_pass(self, _rows: RowPair) -> WrittenTo {
         WrittenTo {
             a0: Some(self.b2),
             row: self.row,
@@ -108,7 +120,9 @@ impl ChangesAhead {
     #[inline(always)]
     // requires places { Spec.AreAhead rows self }
     // requires same { self.a1 ≡ self.b1 }
-    fn after_b1(self, rows: RowPair) -> WrittenTo {
+    // ensures places { Spec.IsWrittenTo rows.entry result }
+    // ensures start { result.a0 ≡ Some self.a1 }
+    fn after_b1(self, _rows: RowPair) -> WrittenTo {
         WrittenTo {
             a0: Some(self.a1),
             row: self.row + 1,
@@ -119,6 +133,8 @@ impl ChangesAhead {
     /// After any a1.
     #[inline(always)]
     // requires places { Spec.AreAhead rows self }
+    // ensures places { Spec.IsWrittenTo rows.entry result }
+    // ensures start { result.a0 ≡ Some self.a1 }
     fn after_a1(self, rows: RowPair) -> WrittenTo {
         WrittenTo {
             a0: Some(self.a1),
@@ -130,6 +146,8 @@ impl ChangesAhead {
     /// After horizontal mode: a0 is put on a2.
     #[inline(always)]
     // requires places { Spec.AreAhead rows self }
+    // ensures places { Spec.IsWrittenTo rows.entry result }
+    // ensures start { result.a0 ≡ Some self.a2 }
     fn after_a2(self, rows: RowPair) -> WrittenTo {
         WrittenTo {
             a0: Some(self.a2),
@@ -144,6 +162,7 @@ impl ChangesAhead {
 #[inline(always)]
 // requires a1 { a1 < 2 ^ 16 }
 // requires b1 { b1 < 2 ^ 16 }
+// ensures { result ≡ Choice.chosen_mode (record { a1 = a1; a2 = 0; b1 = b1; b2 = b2 }) }
 fn choose(a1: u32, b1: u32, b2: u32) -> ModeCode {
     if b2 < a1 {
         return ModeCode::Pass;
@@ -160,6 +179,13 @@ fn choose(a1: u32, b1: u32, b2: u32) -> ModeCode {
 /// which bits are pending.
 #[inline(always)]
 // requires places { Spec.AreAhead rows ahead }
+// ensures ok { IfOk result (λ next. AppendsAllBut sink.old
+//     (pending ++ Spec.bits_ahead rows.entry ahead.a0) next.1 sink.new) }
+// ensures next { IfOk result (λ next.
+//     next.0.a0 ≡ Some (Spec.place_ahead rows.entry ahead.a0)) }
+// ensures places { IfOk result (λ next. Spec.IsWrittenTo rows.entry next.0) }
+// ensures err { OnErr result (AppendsPrefix sink.old
+//     (pending ++ Spec.bits_ahead rows.entry ahead.a0) sink.new) }
 fn put_far_step(
     rows: RowPair,
     ahead: ChangesAhead,
@@ -191,6 +217,13 @@ fn put_far_step(
 #[inline(always)]
 // requires places { Spec.IsWrittenTo rows at }
 // requires unfinished { unwrap_or at.a0 0 < rows.row.width }
+// ensures ok { IfOk result (λ next. AppendsAllBut sink.old
+//     (pending ++ Spec.bits_ahead rows.entry at.a0) next.1 sink.new) }
+// ensures next { IfOk result (λ next.
+//     next.0.a0 ≡ Some (Spec.place_ahead rows.entry at.a0)) }
+// ensures places { IfOk result (λ next. Spec.IsWrittenTo rows.entry next.0) }
+// ensures err { OnErr result (AppendsPrefix sink.old
+//     (pending ++ Spec.bits_ahead rows.entry at.a0) sink.new) }
 fn put_step(
     rows: RowPair,
     at: WrittenTo,
@@ -206,6 +239,10 @@ fn put_step(
 }
 
 /// Puts the steps of a row.
+// ensures ok { OnOk result (Appends sink.old (Coded.two_dimensional_bits
+//     (placed_pels rows.entry.reference) (placed_pels rows.entry.row)) sink.new) }
+// ensures err { OnErr result (AppendsPrefix sink.old (Coded.two_dimensional_bits
+//     (placed_pels rows.entry.reference) (placed_pels rows.entry.row)) sink.new) }
 fn put_steps(rows: RowPair, sink: &mut BitSink) -> Result<(), Memory> {
     // One index goes along the row and one along its reference: after each step both go on to the
     // first place right of a0, by which a1, a2, a0's colour, b1 and b2 are known.
@@ -228,6 +265,10 @@ fn put_steps(rows: RowPair, sink: &mut BitSink) -> Result<(), Memory> {
 ///
 /// `Memory` where a growth was refused. The row's bits were put up to some place then.
 // requires same_width { length reference.now ≡ length row.now }
+// ensures ok { OnOk result
+//     (Appends sink.old (Coded.two_dimensional_bits reference.now row.now) sink.new) }
+// ensures err { OnErr result
+//     (AppendsPrefix sink.old (Coded.two_dimensional_bits reference.now row.now) sink.new) }
 pub fn put_2d(reference: &Row, row: &Row, sink: &mut BitSink) -> Result<(), Memory> {
     // That its bits are read back is a law of the definitions (`laws`), which a caller calls where
     // a proof needs it.

@@ -1,3 +1,4 @@
+// Made by tools/plain-rust of crates/fax_rows/src/runs.rt: change that.
 //! Runs of pels of one colour, code by code (ITU-T T.4, section 4.1.1).
 
 use crate::RowFault;
@@ -6,6 +7,7 @@ use fax_bits::{
 };
 
 /// The opposite colour.
+// ensures { result ≡ other_than colour }
 pub(crate) fn other(colour: Colour) -> Colour {
     match colour {
         Colour::White => Colour::Black,
@@ -15,6 +17,11 @@ pub(crate) fn other(colour: Colour) -> Colour {
 
 /// Reads a code for a run of the colour.
 #[inline(always)]
+// ensures ok { IfOk result
+//     (λ code. Takes (run_table colour) source.old.left code source.new.left) }
+// ensures err { IfErr result (λ fault. IsFaultOf (run_table colour) source.old.left fault) }
+// ensures same_end { KeepsEnd source.old source.new }
+// ensures shorter { OnOk result (length source.new.left < length source.old.left) }
 fn read_run_code(source: &mut BitSource, colour: Colour) -> Result<RunCode, CodeFault> {
     match colour {
         Colour::White => read_code::<WhiteRuns>(source),
@@ -36,13 +43,19 @@ pub(crate) struct ReadRun {
 #[inline(never)]
 // requires width { width < 2 ^ 16 }
 // requires from { from ≤ width }
+// ensures ok { IfOk result (λ run. IsRun colour source.old.left run.pels source.new.left) }
+// ensures chosen { IfOk result (λ run. IsTrue run.is_chosen
+//     → source.old.left ≡ run_bits colour run.pels ++ source.new.left) }
+// ensures within { IfOk result (λ run. from + run.pels ≤ width) }
+// ensures err { IfErr result (λ fault. IsRunFault colour width from source.old.left fault) }
+// ensures same_end { KeepsEnd source.old source.new }
+// ensures shorter { OnOk result (length source.new.left < length source.old.left) }
 fn read_run(
     source: &mut BitSource,
     colour: Colour,
     width: u32,
     from: u32,
 ) -> Result<ReadRun, RowFault> {
-    fax_bits::laws::chosen_codes_are_written();
     let mut pels = 0;
     // Whether T.4 chooses the codes so far where the next one ends the run, and where it does not.
     let mut is_chosen = true;
@@ -73,6 +86,13 @@ fn read_run(
 #[inline(always)]
 // requires width { width < 2 ^ 16 }
 // requires from { from ≤ width }
+// ensures ok { IfOk result (λ run. IsRun colour source.old.left run.pels source.new.left) }
+// ensures chosen { IfOk result (λ run. IsTrue run.is_chosen
+//     → source.old.left ≡ run_bits colour run.pels ++ source.new.left) }
+// ensures within { IfOk result (λ run. from + run.pels ≤ width) }
+// ensures err { IfErr result (λ fault. IsRunFault colour width from source.old.left fault) }
+// ensures same_end { KeepsEnd source.old source.new }
+// ensures shorter { OnOk result (length source.new.left < length source.old.left) }
 pub(crate) fn last_run(
     source: &mut BitSource,
     colour: Colour,

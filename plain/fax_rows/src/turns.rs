@@ -1,3 +1,4 @@
+// Made by tools/plain-rust of crates/fax_rows/src/turns.rt: change that.
 //! Places of change: each of them turns the colour of the pels from there on (ITU-T T.4, section
 //! 4.2.1.3.1).
 
@@ -5,6 +6,7 @@ use fax_bits::Colour;
 
 /// The colour after so many places, the first of which turns black to white.
 #[inline(always)]
+// ensures { result ≡ Spec.alternate Colour.Black places }
 pub(crate) fn colour_after(places: usize) -> Colour {
     if places % 2 == 1 {
         Colour::White
@@ -17,6 +19,7 @@ pub(crate) fn colour_after(places: usize) -> Colour {
 // requires started { 0 < end }
 // requires within { end ≤ length places.now }
 // requires first { slice_index places.now 0 ≡ 0 }
+// ensures { Spec.ArePlacesUpTo places.now end i result }
 pub(crate) fn places_up_to(places: &[u32], end: usize, i: u32) -> usize {
     let mut low = 1;
     let mut high = end;
@@ -36,6 +39,7 @@ pub(crate) fn places_up_to(places: &[u32], end: usize, i: u32) -> usize {
 // requires ascending { Spec.IsAscending places.old end }
 // requires last { slice_index places.old (end - 1) ≤ place }
 // requires room { end < length places.old }
+// ensures { Spec.TurnsAt places.old places.new end result place }
 pub(crate) fn turn(places: &mut [u32], end: usize, place: u32) -> usize {
     if end > 1 && places[end - 1] == place {
         return end - 1;
@@ -50,6 +54,7 @@ pub(crate) fn turn(places: &mut [u32], end: usize, place: u32) -> usize {
 // requires ascending { Spec.IsAscending places.old end }
 // requires last { slice_index places.old (end - 1) + run ≤ place }
 // requires room { end < length places.old }
+// ensures { Spec.TurnsAt places.old places.new end result place }
 pub(crate) fn turn_after(places: &mut [u32], end: usize, place: u32, run: u32) -> usize {
     if run == 0 {
         return turn(places, end, place);
@@ -63,6 +68,7 @@ pub(crate) fn turn_after(places: &mut [u32], end: usize, place: u32, run: u32) -
 // requires ascending { Spec.IsAscending places.old end }
 // requires right { 1 < end → slice_index places.old (end - 1) < place }
 // requires room { end < length places.old }
+// ensures { Spec.TurnsAt places.old places.new end result place }
 pub(crate) fn put_turn(places: &mut [u32], end: usize, place: u32) -> usize {
     places[end] = place;
     end + 1
@@ -70,6 +76,10 @@ pub(crate) fn put_turn(places: &mut [u32], end: usize, place: u32) -> usize {
 
 /// Where the places below the width end: the last of them may be the width, where no row changes.
 // requires { ArePut width places.now end width }
+// ensures ascending { Spec.IsAscending places.now result }
+// ensures below { (i : ℕ) → 0 < i → i < result → slice_index places.now i < width }
+// ensures within { result ≤ width + 1 }
+// ensures pels { Spec.row_of places.now result width ≡ Spec.row_of places.now end width }
 fn end_below(places: &[u32], end: usize, width: u32) -> usize {
     if end > 1 && places[end - 1] == width {
         end - 1
@@ -82,6 +92,8 @@ fn end_below(places: &[u32], end: usize, width: u32) -> usize {
 // requires some { 0 < width }
 // requires short { width < 2 ^ 16 }
 // requires put { ArePut width places.old end width }
+// ensures placed { Spec.ArePlaces places.new result width }
+// ensures pels { Spec.row_of places.new result width ≡ Spec.row_of places.old end width }
 pub(crate) fn close(places: &mut [u32], end: usize, width: u32) -> usize {
     let end = end_below(places, end, width);
     places[end] = width;
@@ -93,7 +105,9 @@ pub(crate) fn close(places: &mut [u32], end: usize, width: u32) -> usize {
 /// Turns the colours of all pels, and answers where the places end then: a change at the first pel
 /// is put, or taken away.
 // requires { Spec.ArePlaces places.old end width }
-pub(crate) fn turn_first(places: &mut [u32], end: usize, width: u32) -> usize {
+// ensures placed { Spec.ArePlaces places.new result width }
+// ensures turned { Spec.IsTurnedFrom (take end places.old) (take result places.new) 0 }
+pub(crate) fn turn_first(places: &mut [u32], end: usize, _width: u32) -> usize {
     if places[1] == 0 {
         places.rotate_left(1);
         return end - 1;
@@ -106,6 +120,8 @@ pub(crate) fn turn_first(places: &mut [u32], end: usize, width: u32) -> usize {
 /// Takes the places of another row of the same width.
 // requires row { Spec.ArePlaces other.now end width }
 // requires room { length places.old ≡ width + 4 }
-pub(crate) fn copy_places(places: &mut [u32], other: &[u32], end: usize, width: u32) {
+// ensures placed { Spec.ArePlaces places.new end width }
+// ensures pels { Spec.row_of places.new end width ≡ Spec.row_of other.now end width }
+pub(crate) fn copy_places(places: &mut [u32], other: &[u32], end: usize, _width: u32) {
     places[..end + 3].copy_from_slice(&other[..end + 3]);
 }

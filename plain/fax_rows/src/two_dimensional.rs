@@ -1,3 +1,4 @@
+// Made by tools/plain-rust of crates/fax_rows/src/two_dimensional.rt: change that.
 //! Rows in two-dimensional coding (ITU-T T.4, section 4.2.1.3, and T.6, section 2.2), read into
 //! places of change over a reference row's places.
 
@@ -38,6 +39,13 @@ struct ReadRow {
 /// step that is not seen to be T.4's choice; the source is then as it was.
 #[inline(always)]
 // requires room { HasRoom reference.width places.old }
+// ensures read { IfOk result (λ end. IsReadRow CHOICE reference.entry source.old.left places.new
+//     end source.new.left) }
+// ensures stop { IfErr result
+//     (λ stop. IsRowStop CHOICE reference.entry source.old.left stop) }
+// ensures unchanged { OnErr result (source.new ≡ source.old) }
+// ensures room { HasRoom reference.entry.width places.new }
+// ensures same_end { KeepsEnd source.old source.new }
 fn read_modes<const CHOICE: bool>(
     source: &mut BitSource,
     reference: PlacedRow,
@@ -65,6 +73,12 @@ fn read_modes<const CHOICE: bool>(
 /// their pels alone.
 #[inline(always)]
 // requires room { HasRoom reference.width places.old }
+// ensures read { IfOk result (λ read. IsReadRow read.is_chosen reference.entry source.old.left
+//     places.new read.end source.new.left) }
+// ensures err { IfErr result (λ fault. Fault.IsTwoDimensionalFault
+//     (placed_pels reference.entry) source.old.left fault) }
+// ensures room { HasRoom reference.entry.width places.new }
+// ensures same_end { KeepsEnd source.old source.new }
 fn read_places<const CHOICE: bool>(
     source: &mut BitSource,
     reference: PlacedRow,
@@ -94,6 +108,14 @@ fn read_places<const CHOICE: bool>(
 /// Reads a row, and answers whether its codes are seen to be those that T.4 chooses.
 #[inline(always)]
 // requires width { length reference.now ≡ length row.old }
+// ensures ok { OnOk result
+//     (Spec.IsTwoDimensionalRow reference.now source.old.left row.new source.new.left) }
+// ensures chosen { IfOk result (λ chosen. IsTrue chosen
+//     → source.old.left ≡ two_dimensional_bits reference.now row.new ++ source.new.left) }
+// ensures err { IfErr result
+//     (λ fault. Fault.IsTwoDimensionalFault reference.now source.old.left fault) }
+// ensures same_width { length row.new ≡ length row.old }
+// ensures same_end { KeepsEnd source.old source.new }
 fn read_row<const CHOICE: bool>(
     source: &mut BitSource,
     reference: &Row,
@@ -123,6 +145,13 @@ fn read_row<const CHOICE: bool>(
 /// The fault of the first mode or run that is no part of the row. Nothing else is said of the row
 /// then.
 // requires width { length reference.now ≡ length row.old }
+// ensures ok { OnOk result
+//     (Spec.IsTwoDimensionalRow reference.now source.old.left row.new source.new.left) }
+// ensures err { IfErr result
+//     (λ fault. Fault.IsTwoDimensionalFault reference.now source.old.left fault) }
+// ensures same_width { length row.new ≡ length row.old }
+// The source goes on in the same bits.
+// ensures same_end { KeepsEnd source.old source.new }
 pub fn read_2d(source: &mut BitSource, reference: &Row, row: &mut Row) -> Result<(), RowFault> {
     read_row::<false>(source, reference, row)?;
     Ok(())
@@ -136,6 +165,15 @@ pub fn read_2d(source: &mut BitSource, reference: &Row, row: &mut Row) -> Result
 ///
 /// As for `read_2d`.
 // requires width { length reference.now ≡ length row.old }
+// ensures ok { OnOk result
+//     (Spec.IsTwoDimensionalRow reference.now source.old.left row.new source.new.left) }
+// ensures chosen { IfOk result (λ chosen. IsTrue chosen
+//     → source.old.left ≡ two_dimensional_bits reference.now row.new ++ source.new.left) }
+// ensures err { IfErr result
+//     (λ fault. Fault.IsTwoDimensionalFault reference.now source.old.left fault) }
+// ensures same_width { length row.new ≡ length row.old }
+// The source goes on in the same bits.
+// ensures same_end { KeepsEnd source.old source.new }
 pub fn read_2d_choice(
     source: &mut BitSource,
     reference: &Row,

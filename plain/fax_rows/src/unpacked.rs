@@ -1,3 +1,4 @@
+// Made by tools/plain-rust of crates/fax_rows/src/unpacked.rt: change that.
 //! The places of change of a row of packed bytes: eight pels in a byte, the leftmost in its highest
 //! bit, where 1 is black.
 
@@ -7,19 +8,20 @@ use crate::packed::WORD;
 use crate::runs::other;
 use crate::turns::turn;
 use fax_bits::Colour;
-use fax_bits::laws::bits_stand_by_place;
 
 /// The word of eight bytes from a place on, the highest first.
 #[inline(always)]
 // requires { at + 8 ≤ length bytes.now }
+// ensures { (i : ℕ) → i < 64
+//     → word_bit result i ≡ slice_index_or (bits MsbFirst bytes.now) (8 * at + i) false }
 fn word_at(bytes: &[u8], at: usize) -> u64 {
-    bits_stand_by_place();
     let mut word = [0; 8];
     word.copy_from_slice(&bytes[at..at + 8]);
     u64::from_be_bytes(word)
 }
 
 /// The colour of the last pel of a word.
+// ensures { result ≡ Spec.colour_of_bit (word_bit word 63) }
 fn last_colour(word: u64) -> Colour {
     if word % 2 == 1 {
         Colour::Black
@@ -35,6 +37,14 @@ fn last_colour(word: u64) -> Colour {
 // requires left { 1 < end → slice_index places.old (end - 1) < from }
 // requires room { from + 68 ≤ length places.old }
 // requires short { from + 64 < 2 ^ 32 }
+// ensures ascending { IsAscending places.new result }
+// ensures left { 1 < result → slice_index places.new (result - 1) < from + 64 }
+// ensures unpacked { (b : List Bool)
+//     → IsUnpackedTo b (take end places.old) from (Spec.colour_of_bit (word_bit before 63))
+//     → ((i : ℕ) → i < 64 → word_bit word i ≡ slice_index_or b (from + i) false)
+//     → IsUnpackedTo b (take result places.new) (from + 64)
+//     (Spec.colour_of_bit (word_bit word 63)) }
+// ensures same_len { length places.new ≡ length places.old }
 fn put_word(places: &mut [u32], end: usize, from: u32, before: u64, word: u64) -> usize {
     // A bit is 1 where a pel has another colour than the one before it.
     let changes = word ^ (word >> 1) ^ (before << 63);
@@ -46,6 +56,9 @@ fn put_word(places: &mut [u32], end: usize, from: u32, before: u64, word: u64) -
 // requires short { words < 1024 }
 // requires whole { 8 * words ≤ length bytes.now }
 // requires within { from ≤ words }
+// ensures from { from ≤ result }
+// ensures within { result ≤ words }
+// ensures white { AreWhite (bits MsbFirst bytes.now) (64 * from) (64 * result) }
 fn past_eights(bytes: &[u8], from: u32, words: u32) -> u32 {
     let mut k = from;
     while words - k >= 8 && are_white(bytes, 8 * k as usize) {
@@ -59,6 +72,9 @@ fn past_eights(bytes: &[u8], from: u32, words: u32) -> u32 {
 // requires short { words < 1024 }
 // requires whole { 8 * words ≤ length bytes.now }
 // requires within { from ≤ words }
+// ensures from { from ≤ result }
+// ensures within { result ≤ words }
+// ensures white { AreWhite (bits MsbFirst bytes.now) (64 * from) (64 * result) }
 fn past_white(bytes: &[u8], from: u32, words: u32) -> u32 {
     let mut k = past_eights(bytes, from, words);
     while k < words && word_at(bytes, 8 * k as usize) == 0 {
@@ -73,6 +89,11 @@ fn past_white(bytes: &[u8], from: u32, words: u32) -> u32 {
 // requires whole { 8 * words ≤ length bytes.now }
 // requires room { 64 * words + 4 ≤ length places.old }
 // requires first { slice_index places.old 0 ≡ 0 }
+// ensures ascending { IsAscending places.new result.0 }
+// ensures left { 1 < result.0 → slice_index places.new (result.0 - 1) < 64 * words }
+// ensures unpacked { IsUnpackedTo (bits MsbFirst bytes.now) (take result.0 places.new)
+//     (64 * words) result.1 }
+// ensures same_len { length places.new ≡ length places.old }
 fn places_of_words(bytes: &[u8], places: &mut [u32], words: u32) -> (usize, Colour) {
     // A bit of a word that is not the one before it is a change. At the row's beginning, and after
     // a white word, the white ones that follow are gone past: by eights, and then one by one.
@@ -97,8 +118,9 @@ fn places_of_words(bytes: &[u8], places: &mut [u32], words: u32) -> (usize, Colo
 // requires short { width < 2 ^ 16 }
 // requires whole { length bytes.now ≡ Spec.packed_len width }
 // requires room { HasRoom width places.old }
+// ensures put { ArePut width places.new result width }
+// ensures pels { row_of places.new result width ≡ Spec.unpacked_row width bytes.now }
 pub(crate) fn places_of_bits(bytes: &[u8], places: &mut [u32], width: u32) -> usize {
-    bits_stand_by_place();
     let words = width / WORD;
     let (mut end, mut colour) = places_of_words(bytes, places, words);
     let mut at = first_other(bytes, u64::from(WORD * words), colour);

@@ -1,3 +1,4 @@
+// Made by tools/plain-rust of crates/fax_rows/src/white.rt: change that.
 //! White rows after white ones, which are gone past by their few bits (ITU-T T.4, sections 4.1.1
 //! and 4.2.1.3.3).
 
@@ -13,11 +14,17 @@ const LONG_RUN: u32 = 2560;
 /// and T.4's choice, and answers whether they are seen to be (T.4, section 4.1.1). Else the source
 /// stays. It takes no memory.
 #[inline(always)]
+// ensures row { IsTrue result → Spec.IsOneDimensionalRow (length white.now)
+//     source.old.left white.now source.new.left }
+// ensures chosen { IsTrue result
+//     → source.old.left ≡ one_dimensional_bits white.now ++ source.new.left }
+// ensures unchanged { result ≡ false → source.new.left ≡ source.old.left }
+// The source goes on in the same bits.
+// ensures same_end { KeepsEnd source.old source.new }
 pub fn take_white_1d(source: &mut BitSource, white: &Row) -> bool {
     // Nearly half of the rows of a usual page are white ones after white ones: nothing is put, and
     // the bytes of such a row in a PBM are zeros that are there already. To answer no is always
     // right: then the row is read as any other, and slower.
-    crate::laws::one_dimensional_rows_are_read_back();
     if !white.is_white() || white.width >= LONG_RUN {
         return false;
     }
@@ -28,8 +35,14 @@ pub fn take_white_1d(source: &mut BitSource, white: &Row) -> bool {
 /// is next, and answers whether that is seen (T.4, section 4.2.1.3.3; T.6, section 2.2.4). Else the
 /// source stays. It takes no memory.
 #[inline(always)]
+// ensures row { IsTrue result → Spec.IsTwoDimensionalRow reference.now
+//     source.old.left reference.now source.new.left }
+// ensures chosen { IsTrue result
+//     → source.old.left ≡ two_dimensional_bits reference.now reference.now ++ source.new.left }
+// ensures unchanged { result ≡ false → source.new.left ≡ source.old.left }
+// The source goes on in the same bits.
+// ensures same_end { KeepsEnd source.old source.new }
 pub fn take_white_2d(source: &mut BitSource, reference: &Row) -> bool {
-    crate::laws::two_dimensional_rows_are_read_back();
     if !reference.is_white() {
         return false;
     }

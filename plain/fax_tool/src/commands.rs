@@ -1,3 +1,4 @@
+// Made by tools/plain-rust of crates/fax_tool/src/commands.rt: change that.
 //! What each command does: `rows` and `list` print lines, the others write a whole text.
 
 pub mod check;

@@ -1,3 +1,4 @@
+// Made by tools/plain-rust of crates/fax_tool/src/input.rt: change that.
 //! The input that words name.
 
 use crate::streams::Source;
@@ -18,5 +19,13 @@ pub trait Input: Source {
     ///
     /// `NotOpened` where there is no such file, or it cannot be opened. The source is then as it
     /// was, but that it counts one more file that was not opened, apart from calls that failed.
+    // ensures bytes { OnOk result (Self.left self.new ≡ named self.old name.now) }
+    // ensures taken { OnOk result (Self.taken self.new ≡ 0) }
+    // ensures counts { OnOk result (Self.counts self.new ≡ no_faults) }
+    // ensures refused { OnErr result (refuses self.old name.now) }
+    // ensures kept { OnErr result (Self.left self.new ≡ Self.left self.old) }
+    // ensures none_taken { OnErr result (Self.taken self.new ≡ Self.taken self.old) }
+    // ensures unopened { OnErr result
+    //     (Self.counts self.new ≡ counts_unopened (Self.counts self.old)) }
     fn open(&mut self, name: &str) -> Result<(), NotOpened>;
 }

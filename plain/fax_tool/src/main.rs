@@ -1,3 +1,4 @@
+// Made by tools/plain-rust of crates/fax_tool/src/main.rt: change that.
 //! `faxpages`: reads black-and-white fax pages in TIFF-F files.
 //!
 //! The program is `run_words`: `main` only gathers the words, and hands it the system's files and
@@ -9,7 +10,6 @@ use kit_std::prelude::{CollectIn, HostRuntime, String, Vec};
 
 mod commands;
 mod input;
-pub mod laws;
 mod program;
 mod refusal;
 mod run;

@@ -1,3 +1,4 @@
+// Made by tools/plain-rust of crates/fax_tool/src/program.rt: change that.
 //! The program over its words: all that it does but for gathering them.
 
 use crate::input::{Input, NotOpened};
@@ -12,6 +13,9 @@ const NOT_OPENED: u8 = 3;
 
 /// Says on the error stream that the file was not opened.
 // requires { E.counts err.old ≡ no_faults }
+// ensures status { result ≡ 3 }
+// ensures said { HasFailed (E.counts err.new)
+//     ⊎ Appends (E.written err.old) (E.written err.new) (codes "fault: Open\n") }
 fn say_not_opened<E: Sink>(err: &mut E) -> u8 {
     let mut interruptions = Interruptions::NONE;
     match give_all(err, &mut interruptions, "fault: Open\n".as_bytes()) {
@@ -22,6 +26,15 @@ fn say_not_opened<E: Sink>(err: &mut E) -> u8 {
 /// Opens the file that a job names, if it names one.
 // requires taken { I.taken input.old ≡ 0 }
 // requires counts { I.counts input.old ≡ no_faults }
+// ensures bytes { OnOk result
+//     (I.left input.new ≡ input_bytes (I.left input.old) (I.named input.old) job.now) }
+// ensures taken { OnOk result (I.taken input.new ≡ 0) }
+// ensures counts { OnOk result (I.counts input.new ≡ no_faults) }
+// ensures refused { OnErr result (IsOfFile (I.refuses input.old) job.now) }
+// ensures kept { OnErr result (I.left input.new ≡ I.left input.old) }
+// ensures none_taken { OnErr result (I.taken input.new ≡ 0) }
+// ensures unopened { OnErr result (I.counts input.new ≡ counts_unopened no_faults) }
+// ensures same { job.now.file ≡ None → input.new ≡ input.old }
 fn open_named<I: Input>(job: &Job, input: &mut I) -> Result<(), NotOpened> {
     match &job.file {
         Some(name) => input.open(name.as_str()),
@@ -36,6 +49,30 @@ fn open_named<I: Input>(job: &Job, input: &mut I) -> Result<(), NotOpened> {
 // requires input_counts { I.counts input.old ≡ no_faults }
 // requires output_counts { W.counts out.old ≡ no_faults }
 // requires error_counts { E.counts err.old ≡ no_faults }
+// ensures status { result < 4 }
+// ensures unread { AskForVersion (texts words.now) → input.new ≡ input.old }
+// ensures written { result < 2 → RunsJob (texts words.now)
+//     (inputs_after (I.left input.old) (I.named input.old) (I.taken input.new)
+//     (I.counts input.new))
+//     (λ command input. WritesText command input
+//     (output_after (W.written out.old) (W.written out.new) (W.counts out.new))
+//     (output_after (E.written err.old) (E.written err.new) (E.counts err.new)) result) }
+// ensures said { result ≡ 2 → (input.new ≡ input.old) × (out.new ≡ out.old)
+//     × SaysFault (texts words.now)
+//     (output_after (E.written err.old) (E.written err.new) (E.counts err.new)) result }
+// ensures refused { result ≡ 3 → ((input.new ≡ input.old) × (out.new ≡ out.old)
+//     × SaysFault (texts words.now)
+//     (output_after (E.written err.old) (E.written err.new) (E.counts err.new)) result)
+//     ⊎ ((I.left input.new ≡ I.left input.old) × (out.new ≡ out.old)
+//     × SaysNotOpened (texts words.now) (I.refuses input.old)
+//     (input_after (I.left input.old) (I.taken input.new) (I.counts input.new))
+//     (output_after (E.written err.old) (E.written err.new) (E.counts err.new)))
+//     ⊎ RunsJob (texts words.now)
+//     (inputs_after (I.left input.old) (I.named input.old) (I.taken input.new)
+//     (I.counts input.new))
+//     (λ command input. IsRefused command input
+//     (output_after (W.written out.old) (W.written out.new) (W.counts out.new))
+//     (output_after (E.written err.old) (E.written err.new) (E.counts err.new))) }
 pub fn run_words<I: Input, W: Sink, E: Sink>(
     alloc: Global,
     words: &[&str],

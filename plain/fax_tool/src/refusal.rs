@@ -1,3 +1,4 @@
+// Made by tools/plain-rust of crates/fax_tool/src/refusal.rt: change that.
 //! Refusals of a run that are no fault of the input.
 
 use fax_bits::Memory as OutOfMemory;
@@ -20,6 +21,7 @@ pub enum Refusal {
 
 impl Refusal {
     /// The line for the error stream.
+    // ensures { result.now ≡ refusal_line self }
     pub fn line(self) -> &'static str {
         match self {
             Refusal::Memory => "fault: Memory\n",

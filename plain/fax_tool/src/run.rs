@@ -1,3 +1,4 @@
+// Made by tools/plain-rust of crates/fax_tool/src/run.rt: change that.
 //! A run of the program over its streams.
 
 use crate::commands::check::give_report;
@@ -23,6 +24,8 @@ const REFUSED: u8 = 3;
 
 /// Says a line on the error stream, and answers this status, or 3 where the stream fails.
 // requires { E.counts err.old ≡ no_faults }
+// ensures { IsSaid (output_after (E.written err.old) (E.written err.new) (E.counts err.new))
+//     line.now status result }
 fn say<E: Sink>(err: &mut E, line: &[u8], status: u8) -> u8 {
     let mut interruptions = Interruptions::NONE;
     match give_all(err, &mut interruptions, line) {
@@ -34,6 +37,8 @@ fn say<E: Sink>(err: &mut E, line: &[u8], status: u8) -> u8 {
 /// Says on the error stream what fault the input has, or why the run was refused, and answers the
 /// program's status.
 // requires { E.counts err.old ≡ no_faults }
+// ensures { IsReported outcome
+//     (output_after (E.written err.old) (E.written err.new) (E.counts err.new)) result }
 fn report<E: Sink>(outcome: Result<Option<ErrorLine>, Refusal>, err: &mut E) -> u8 {
     match outcome {
         Ok(None) => DONE,
@@ -47,6 +52,13 @@ fn report<E: Sink>(outcome: Result<Option<ErrorLine>, Refusal>, err: &mut E) -> 
 // requires input_counts { R.counts input.old ≡ no_faults }
 // requires taken { R.taken input.old ≡ 0 }
 // requires output_counts { W.counts out.old ≡ no_faults }
+// ensures ok { IfOk result (IsDone command.now
+//     (input_after (R.left input.old) (R.taken input.new) (R.counts input.new))
+//     (output_after (W.written out.old) (W.written out.new) (W.counts out.new))) }
+// ensures err { IfErr result (λ refusal. IsStopped command.now refusal
+//     (input_after (R.left input.old) (R.taken input.new) (R.counts input.new))
+//     (output_after (W.written out.old) (W.written out.new) (W.counts out.new))) }
+// ensures unread { command.now ≡ Version → input.new ≡ input.old }
 fn carry_out<R: Source, W: Sink>(
     alloc: Global,
     command: &Command,
@@ -73,6 +85,20 @@ fn carry_out<R: Source, W: Sink>(
 // requires taken { R.taken input.old ≡ 0 }
 // requires output_counts { W.counts out.old ≡ no_faults }
 // requires error_counts { E.counts err.old ≡ no_faults }
+// ensures status { (result ≡ 0) ⊎ (result ≡ 1) ⊎ (result ≡ 3) }
+// For the version nothing is read.
+// ensures unread { job.now.command ≡ Version → input.new ≡ input.old }
+// What was done is the text of what the job's command tells of the input, and no stream failed.
+// ensures written { result < 3 → WritesText job.now.command
+//     (input_after (R.left input.old) (R.taken input.new) (R.counts input.new))
+//     (output_after (W.written out.old) (W.written out.new) (W.counts out.new))
+//     (output_after (E.written err.old) (E.written err.new) (E.counts err.new)) result }
+// What was refused was refused for a reason that the streams' counts show, and the output is
+// what it has to be then.
+// ensures refused { result ≡ 3 → IsRefused job.now.command
+//     (input_after (R.left input.old) (R.taken input.new) (R.counts input.new))
+//     (output_after (W.written out.old) (W.written out.new) (W.counts out.new))
+//     (output_after (E.written err.old) (E.written err.new) (E.counts err.new)) }
 pub fn run<R: Source, W: Sink, E: Sink>(
     alloc: Global,
     job: &Job,

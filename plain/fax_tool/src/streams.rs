@@ -1,3 +1,4 @@
+// Made by tools/plain-rust of crates/fax_tool/src/streams.rt: change that.
 //! The streams that a run reads and writes.
 
 pub(crate) mod held;
@@ -21,6 +22,10 @@ pub enum StreamFault {
 pub trait Source {
     /// Moves the next bytes to the front of the buffer, and answers how many: 0 only where the
     /// buffer is empty or no byte is left.
+    // ensures within { IfOk result (λ n. n ≤ length buffer.new) }
+    // ensures bytes { TakesBytes (left self.old) (left self.new) result buffer.new }
+    // ensures taken { taken self.new ≡ taken_after result (taken self.old) }
+    // ensures counts { counts self.new ≡ counts_after result (counts self.old) }
     fn take(&mut self, buffer: &mut [u8]) -> Result<usize, StreamFault>;
 }
 
@@ -29,6 +34,10 @@ pub trait Source {
 pub trait Sink {
     /// Writes bytes from the front of the slice, and answers how many: 0 only where the slice is
     /// empty.
+    // ensures within { IfOk result (λ n. n ≤ length bytes.now) }
+    // ensures some { IfOk result (λ n. 0 < length bytes.now → 0 < n) }
+    // ensures bytes { GivesBytes (written self.old) (written self.new) result bytes.now }
+    // ensures counts { counts self.new ≡ counts_after result (counts self.old) }
     fn give(&mut self, bytes: &[u8]) -> Result<usize, StreamFault>;
 }
 
@@ -50,6 +59,8 @@ impl FaultCounts {
     };
 
     /// Counts one more call with this fault, and answers the fault.
+    // ensures same { result ≡ fault }
+    // ensures counted { counts_of self.new ≡ counts_after (Err fault) (counts_of self.old) }
     fn count(&mut self, fault: StreamFault) -> StreamFault {
         match fault {
             StreamFault::Interrupted => self.interrupted = self.interrupted.saturating_add(1),
@@ -60,6 +71,7 @@ impl FaultCounts {
 }
 
 /// The fault of a call on a stream of std.
+// ensures { IsFaultOf (error_kind error.now) result }
 fn fault_of(error: &io::Error) -> StreamFault {
     match error.kind() {
         io::ErrorKind::Interrupted => StreamFault::Interrupted,
@@ -76,6 +88,10 @@ pub struct FromRead<R> {
 
 impl<R: io::Read> FromRead<R> {
     /// The reader's bytes from here on, with counts of 0.
+    // ensures reader { reader_of result ≡ reader }
+    // ensures left { ⟦<FromRead<R> as Source>⟧.left result ≡ R.remaining reader }
+    // ensures taken { ⟦<FromRead<R> as Source>⟧.taken result ≡ 0 }
+    // ensures counts { ⟦<FromRead<R> as Source>⟧.counts result ≡ no_faults }
     pub fn new(reader: R) -> Self {
         FromRead {
             reader,
@@ -85,12 +101,21 @@ impl<R: io::Read> FromRead<R> {
     }
 
     /// Counts a file that was not opened, apart from calls that failed. The reader stays.
+    // ensures reader { reader_of self.new ≡ reader_of self.old }
+    // ensures left { ⟦<FromRead<R> as Source>⟧.left self.new
+    //     ≡ ⟦<FromRead<R> as Source>⟧.left self.old }
+    // ensures taken { ⟦<FromRead<R> as Source>⟧.taken self.new
+    //     ≡ ⟦<FromRead<R> as Source>⟧.taken self.old }
+    // ensures counts { ⟦<FromRead<R> as Source>⟧.counts self.new
+    //     ≡ counts_unopened (⟦<FromRead<R> as Source>⟧.counts self.old) }
     pub fn count_unopened(&mut self) {
         // Counted as a call that failed, it was a reason for `fault: Read`.
         self.faults.unopened = self.faults.unopened.saturating_add(1);
     }
 
     /// The reader, after the bytes that were taken.
+    // ensures reader { result ≡ reader_of self }
+    // ensures left { R.remaining result ≡ ⟦<FromRead<R> as Source>⟧.left self }
     pub fn into_inner(self) -> R {
         let FromRead { reader, .. } = self;
         reader
@@ -117,6 +142,9 @@ pub struct ToWrite<W> {
 
 impl<W: io::Write> ToWrite<W> {
     /// The writer, with counts of 0.
+    // ensures writer { writer_of result ≡ writer }
+    // ensures written { ⟦<ToWrite<W> as Sink>⟧.written result ≡ W.contents writer }
+    // ensures counts { ⟦<ToWrite<W> as Sink>⟧.counts result ≡ no_faults }
     pub fn new(writer: W) -> Self {
         ToWrite {
             writer,
@@ -125,6 +153,8 @@ impl<W: io::Write> ToWrite<W> {
     }
 
     /// The writer, with what was given.
+    // ensures writer { result ≡ writer_of self }
+    // ensures written { W.contents result ≡ ⟦<ToWrite<W> as Sink>⟧.written self }
     pub fn into_inner(self) -> W {
         let ToWrite { writer, .. } = self;
         writer

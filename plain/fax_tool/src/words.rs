@@ -1,3 +1,4 @@
+// Made by tools/plain-rust of crates/fax_tool/src/words.rt: change that.
 //! The words of a command line.
 
 use kit_std::prelude::String;
@@ -54,6 +55,7 @@ pub struct Selection {
 
 impl Selection {
     /// The cursor to begin at, of the long cursor where one is named.
+    // ensures { result ≡ begun_cursor (begun_of self.now) }
     pub fn begin(&self) -> Cursor {
         match &self.from {
             Some(from) => from.at,
@@ -66,6 +68,7 @@ impl Selection {
     /// # Errors
     ///
     /// `Memory` where a growth was refused.
+    // ensures { IfOk result (λ begun. begun ≡ begun_of self.now) }
     pub fn begun(&self) -> Result<Begun, Memory> {
         match &self.from {
             Some(from) => Ok(Begun::Inside(LongCursor {
@@ -110,6 +113,7 @@ usage: faxpages list [--cursor C] [--max N] [FILE]
 const SALVAGE_USAGE: &str = "usage: faxpages salvage [FILE]\n";
 
 /// Whether words name `salvage`.
+// ensures { result ≡ names_salvage (texts words.now) }
 fn name_salvage(words: &[&str]) -> bool {
     match words {
         [_, name, ..] => *name == "salvage",
@@ -118,6 +122,7 @@ fn name_salvage(words: &[&str]) -> bool {
 }
 
 /// The usage for words: that of `salvage` where they name it.
+// ensures { result.now ≡ usage_for (texts words.now) }
 fn usage_for(words: &[&str]) -> &'static str {
     // The four lines were asked for before there was `salvage`, and stay for all other words. Words
     // that are not UTF-8 have the four lines, since nothing is read of them.
@@ -131,6 +136,8 @@ fn usage_for(words: &[&str]) -> &'static str {
 impl WordsFault {
     /// The text for the error stream, with its line ends, and the program's status, for these
     /// words.
+    // ensures text { result.0.now ≡ words_text (texts words.now) self.now }
+    // ensures status { result.1 ≡ words_status self.now }
     pub fn text(&self, words: &[&str]) -> (&'static str, u8) {
         match self {
             WordsFault::Usage => (usage_for(words), 2),
@@ -142,6 +149,10 @@ impl WordsFault {
     /// Says the text for these words on the error stream, and answers the status, also where the
     /// stream fails.
     // requires { E.counts err.old ≡ no_faults }
+    // ensures status { result ≡ words_status self.now }
+    // ensures said { HasFailed (E.counts err.new)
+    //     ⊎ Appends (E.written err.old) (E.written err.new)
+    //     (words_text (texts words.now) self.now) }
     pub fn say<E: Sink>(&self, words: &[&str], err: &mut E) -> u8 {
         let (text, status) = self.text(words);
         let mut interruptions = Interruptions::NONE;
@@ -182,6 +193,7 @@ impl From<LongFault> for WordsFault {
 }
 
 /// A command that prints a part of a file, line by line.
+// ensures { IfOk result (λ c. IsApp c (printing_app name.entry.now)) }
 fn printing<'a>(alloc: Global, name: &'a str) -> Result<clap::Command<'a>, AllocError> {
     let max = number(alloc, "max", value_parser!(u32).range(1..));
     clap::Command::new(alloc, name)
@@ -192,6 +204,7 @@ fn printing<'a>(alloc: Global, name: &'a str) -> Result<clap::Command<'a>, Alloc
 }
 
 /// The command that prints rows.
+// ensures { IfOk result (λ c. IsApp c rows_app) }
 fn printing_rows<'a>(alloc: Global) -> Result<clap::Command<'a>, AllocError> {
     let long = Arg::new(alloc, "long")
         .long("long")
@@ -200,11 +213,14 @@ fn printing_rows<'a>(alloc: Global) -> Result<clap::Command<'a>, AllocError> {
 }
 
 /// An option with a number that the parser takes.
+// ensures rule { rule_of result ≡ value_rule name.entry.now parser.entry }
+// ensures local { result.global ≡ false }
 fn number<'a>(alloc: Global, name: &'a str, parser: ValueParser<'a>) -> Arg<'a> {
     Arg::new(alloc, name).long(name).value_parser(parser)
 }
 
 /// The command that writes pages in another form, with the options that say how rows are coded.
+// ensures { IfOk result (λ c. IsApp c coding_app) }
 fn coding<'a>(alloc: Global) -> Result<clap::Command<'a>, AllocError> {
     let target = Arg::new(alloc, "o").short('o').required(true);
     clap::Command::new(alloc, "convert")
@@ -215,6 +231,7 @@ fn coding<'a>(alloc: Global) -> Result<clap::Command<'a>, AllocError> {
 }
 
 /// The command that writes pages in another form.
+// ensures { IfOk result (λ c. IsApp c convert_app) }
 fn converting<'a>(alloc: Global) -> Result<clap::Command<'a>, AllocError> {
     let align = Arg::new(alloc, "align")
         .long("align")
@@ -226,6 +243,7 @@ fn converting<'a>(alloc: Global) -> Result<clap::Command<'a>, AllocError> {
 }
 
 /// A command whose words name a file alone.
+// ensures { IfOk result (λ c. IsApp c (file_app name.entry.now)) }
 fn reading<'a>(alloc: Global, name: &'a str) -> Result<clap::Command<'a>, AllocError> {
     clap::Command::new(alloc, name)
         .disable_help_flag(true)
@@ -233,6 +251,7 @@ fn reading<'a>(alloc: Global, name: &'a str) -> Result<clap::Command<'a>, AllocE
 }
 
 /// The program, with the commands that print a part of a file.
+// ensures { IfOk result (λ c. IsApp c printers_app) }
 fn printers<'a>(alloc: Global) -> Result<clap::Command<'a>, AllocError> {
     clap::Command::new(alloc, "faxpages")
         .disable_help_flag(true)
@@ -243,6 +262,7 @@ fn printers<'a>(alloc: Global) -> Result<clap::Command<'a>, AllocError> {
 }
 
 /// The command line of the program.
+// ensures { IfOk result (λ c. IsApp c faxpages_app) }
 fn command_line<'a>(alloc: Global) -> Result<clap::Command<'a>, AllocError> {
     printers(alloc)?
         .subcommand(converting(alloc)?)?
@@ -251,6 +271,8 @@ fn command_line<'a>(alloc: Global) -> Result<clap::Command<'a>, AllocError> {
 }
 
 /// The file among the words after a command.
+// ensures { IfOk result (λ file. option_map string_bytes file
+//     ≡ first_of (codes "FILE") (entries_of matches.now)) }
 fn file_of(alloc: Global, matches: &ArgMatches) -> Result<Option<String>, AllocError> {
     match matches.get_str("FILE") {
         Some(name) => Ok(Some(String::from_str(alloc, name)?)),
@@ -260,6 +282,11 @@ fn file_of(alloc: Global, matches: &ArgMatches) -> Result<Option<String>, AllocE
 
 /// The part of a file's pages that the words after `list` name.
 // requires { HasNumber (codes "max") most_lines (entries_of matches.now) }
+// ensures ok { IfOk result (λ part. IsPart (given_by (entries_of matches.now)) false part
+//     × (part.from ≡ None)) }
+// ensures cursor { IfOk result (λ part. IsCursor part.cursor) }
+// ensures err { OnErr result ((text : Text)
+//     × (first_of (codes "cursor") (entries_of matches.now) ≡ Some text) × IsNoCursor text) }
 fn pages_of(matches: &ArgMatches) -> Result<Selection, NotACursor> {
     let cursor = match matches.get_str("cursor") {
         Some(text) => Cursor::parse(text)?,
@@ -276,6 +303,14 @@ fn pages_of(matches: &ArgMatches) -> Result<Selection, NotACursor> {
 /// The part of a file's rows that the words after `rows` name, where the cursor may be a long one.
 // requires max { HasNumber (codes "max") most_lines (entries_of matches.now) }
 // requires long { HasFlag (codes "long") (entries_of matches.now) }
+// ensures ok { IfOk result (λ part. IsPart (given_by (entries_of matches.now))
+//     (is_set (codes "long") (given_by (entries_of matches.now))) part) }
+// ensures cursor { IfOk result (λ part. IsCursor part.cursor) }
+// ensures from { IfOk result (λ part. IfSome part.from IsLongCursor) }
+// ensures err { IfErr result (λ fault. (fault ≢ BadWords)
+//     × (fault ≡ WordsFault.NotACursor → (text : Text)
+//     × (first_of (codes "cursor") (entries_of matches.now) ≡ Some text)
+//     × IsNoCursor text × IsNoLongCursor text)) }
 fn rows_of(alloc: Global, matches: &ArgMatches) -> Result<Selection, WordsFault> {
     let (cursor, from) = match matches.get_str("cursor") {
         Some(text) => match Cursor::parse(text) {
@@ -296,6 +331,7 @@ fn rows_of(alloc: Global, matches: &ArgMatches) -> Result<Selection, WordsFault>
 }
 
 /// What the word after `-o` names, if it names a target.
+// ensures { result ≡ target_in (given_by (entries_of matches.now)) }
 fn target_of(matches: &ArgMatches) -> Option<Target> {
     // To clap that word is any text: a list of values would be a borrowed slice there, and the
     // command would equal no written-out one. The answer is `Usage` in both cases.
@@ -310,6 +346,7 @@ fn target_of(matches: &ArgMatches) -> Option<Target> {
 
 /// Which bit of a byte is to be first.
 // requires { HasNumber (codes "order") 2 (entries_of matches.now) }
+// ensures { result ≡ order_by (number_in (codes "order") (given_by (entries_of matches.now))) }
 fn order_of(matches: &ArgMatches) -> FillOrder {
     let order = matches.get_one::<u32>("order").unwrap_or(1);
     if order == 2 {
@@ -320,6 +357,8 @@ fn order_of(matches: &ArgMatches) -> FillOrder {
 }
 
 /// Whether rows of this target have EOLs.
+// ensures some { result ≡ true → (target ≢ Pbm) × (target ≢ Mmr) }
+// ensures none { result ≡ false → (target ≡ Pbm) ⊎ (target ≡ Mmr) }
 fn has_eols(target: Target) -> bool {
     match target {
         Target::Mh | Target::Mr => true,
@@ -330,6 +369,9 @@ fn has_eols(target: Target) -> bool {
 /// How the words after `convert` want the pages, unless they name no target, or one that has no
 /// EOLs where these are to be aligned.
 // requires { HasOptions (entries_of matches.now) }
+// ensures some { IfSome result (λ options.
+//     AreOptions (given_by (entries_of matches.now)) options) }
+// ensures none { result ≡ None → HasNoTarget (given_by (entries_of matches.now)) }
 fn options_of(matches: &ArgMatches) -> Option<Options> {
     let target = target_of(matches)?;
     let aligned = matches.get_flag("align");
@@ -347,6 +389,11 @@ fn options_of(matches: &ArgMatches) -> Option<Options> {
 
 /// The command of this name, as the words after it want it.
 // requires { HasEntries name.now (entries_of matches.now) }
+// ensures command { IfOk result (λ command.
+//     IsCommand name.now (given_by (entries_of matches.now)) command) }
+// ensures cursors { IfOk result (λ command. HasCursors command) }
+// ensures fault { IfErr result (λ fault.
+//     IsCommandFault name.now (given_by (entries_of matches.now)) fault) }
 fn command_of(alloc: Global, name: &str, matches: &ArgMatches) -> Result<Command, WordsFault> {
     match name {
         "list" => Ok(Command::List(pages_of(matches)?)),
@@ -362,6 +409,8 @@ fn command_of(alloc: Global, name: &str, matches: &ArgMatches) -> Result<Command
 }
 
 /// Whether the words ask for the version: `--version`, alone.
+// ensures some { result ≡ true → AskForVersion (texts words.now) }
+// ensures none { result ≡ false → ¬ AskForVersion (texts words.now) }
 fn ask_for_version(words: &[&str]) -> bool {
     // Beside any other word, and after a command's name, it is refused. It is no command of the
     // grammar, and clap is not asked.
@@ -372,6 +421,7 @@ fn ask_for_version(words: &[&str]) -> bool {
 }
 
 /// Looks at each word, and so sees that it is UTF-8, as the grammar has it.
+// ensures { All IsUtf8 (texts words.now) }
 fn see_texts(words: &[&str]) {
     for word in words {
         let _seen = word.as_bytes();
@@ -379,6 +429,8 @@ fn see_texts(words: &[&str]) {
 }
 
 /// The job of a command that the words name, the program's own name first.
+// ensures job { IfOk result (λ job. IsJobOfCommand (texts words.now) job) }
+// ensures fault { IfErr result (λ fault. IsJobFault (texts words.now) fault) }
 fn job_of(alloc: Global, words: &[&str]) -> Result<Job, WordsFault> {
     see_texts(words);
     let matches = command_line(alloc)?.try_get_matches_from(words)?;
@@ -399,6 +451,8 @@ fn job_of(alloc: Global, words: &[&str]) -> Result<Job, WordsFault> {
 /// version, or `-o` names no target, or `--align` meets one that has no EOLs. `NotACursor` where
 /// the words are those of a command, but for the text of `--cursor`. `Memory` where a growth was
 /// refused.
+// ensures job { IfOk result (λ job. IsJob (texts words.now) job) }
+// ensures fault { IfErr result (λ fault. IsFault (texts words.now) fault) }
 pub fn parse_words(alloc: Global, words: &[&str]) -> Result<Job, WordsFault> {
     if ask_for_version(words) {
         return Ok(Job {

@@ -1,3 +1,4 @@
+// Made by tools/plain-rust of crates/fax_walk/src/begun.rt: change that.
 //! What a walk begins with.
 
 use crate::{Cursor, LongCursor};
@@ -13,6 +14,7 @@ pub enum Begun {
 
 impl Begun {
     /// The cursor of what it begins with.
+    // ensures { result ≡ begun_cursor self.now }
     pub(crate) fn cursor(&self) -> Cursor {
         match self {
             Begun::At(cursor) => *cursor,
@@ -25,6 +27,7 @@ impl Begun {
     /// # Errors
     ///
     /// `Memory` where a growth was refused.
+    // ensures { IfOk result (λ place. place ≡ begun_place self.now) }
     pub(crate) fn long_cursor(&self) -> Result<Option<LongCursor>, Memory> {
         match self {
             Begun::At(_) => Ok(None),

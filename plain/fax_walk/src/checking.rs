@@ -1,3 +1,4 @@
+// Made by tools/plain-rust of crates/fax_walk/src/checking.rt: change that.
 //! A file that is read wholly for what is worth a note in it.
 
 use kit_std::prelude::Vec;
@@ -28,6 +29,7 @@ pub enum NoteKind {
 
 impl NoteKind {
     /// The note's name.
+    // ensures { result.now ≡ (number_and_name self).1 }
     pub fn name(self) -> &'static str {
         match self {
             NoteKind::NoEndOfBlock => "NoEndOfBlock",
@@ -39,6 +41,7 @@ impl NoteKind {
     }
 
     /// The note's number, 1 to 5.
+    // ensures { result ≡ (number_and_name self).0 }
     pub fn number(self) -> u8 {
         match self {
             NoteKind::NoEndOfBlock => 1,
@@ -85,6 +88,8 @@ struct PageRead {
 }
 
 /// Adds a note where its test holds.
+// ensures { OnOk result
+//     (notes.new.items ≡ notes.old.items ++ Spec.note_if test page strip kind) }
 fn note_if(
     notes: &mut Vec<Note>,
     test: bool,
@@ -99,6 +104,8 @@ fn note_if(
 }
 
 /// Adds the notes on a strip.
+// ensures { OnOk result
+//     (notes.new.items ≡ notes.old.items ++ Spec.notes_on_strip page strip found) }
 fn note_strip(notes: &mut Vec<Note>, page: u32, strip: u32, found: StripNotes) -> Result<(), Memory> {
     let strip = Some(strip);
     note_if(
@@ -133,6 +140,7 @@ fn note_strip(notes: &mut Vec<Note>, page: u32, strip: u32, found: StripNotes) -
 
 /// How far a page was read where a strip that begins after so many rows has no notes.
 // requires { Code.IsRowInside before fault }
+// ensures { IfOk result (Code.IsReadTo before fault) }
 fn read_to(before: u32, fault: NotesFault) -> Result<PageRead, Memory> {
     match fault {
         NotesFault::Memory => Err(Memory),
@@ -148,6 +156,9 @@ fn read_to(before: u32, fault: NotesFault) -> Result<PageRead, Memory> {
 // requires limits { IsPageForm form.now }
 // requires count { strips.now.count ≡ form.now.strips }
 // requires here { Code.IsDirectoryOfPage strips.now.directory page }
+// ensures { IfOk result (Code.IsRestChecked strips.now.directory.file
+//     (Code.before_strip form.now page 0)
+//     page notes.old.items notes.new.items) }
 fn check_strips(
     alloc: Global,
     page: u32,
@@ -155,8 +166,6 @@ fn check_strips(
     strips: &Strips,
     notes: &mut Vec<Note>,
 ) -> Result<PageRead, Memory> {
-    fax_bits::laws::bits_stand_by_place();
-    fax_page::laws::lines_are_read_in_one_way();
     let mut reader = NotesReader::new(alloc, form.width)?;
     for s in 0..form.strips {
         let before = s * form.rows_per_strip;
@@ -182,6 +191,8 @@ fn check_strips(
 
 /// Reads a page and adds the notes on it, up to its first fault. A page that is refused has none.
 // requires { Code.IsDirectoryOfPage directory.now page }
+// ensures { IfOk result (Code.IsRestChecked directory.now.file (Code.before_page page) page
+//     notes.old.items notes.new.items) }
 fn check_page(
     alloc: Global,
     page: u32,
@@ -204,6 +215,7 @@ fn check_page(
 
 /// The report on a file with a good header.
 // requires { header tiff.file ≡ Ok tiff.head }
+// ensures { IfOk result (Spec.IsReport tiff.entry.file) }
 fn check_pages(alloc: Global, tiff: Tiff) -> Result<Report, Memory> {
     // It does not go by a walk, which hands out rows and not their bits. What it counts are the
     // items of the same definition (`AreItems`).
@@ -240,6 +252,7 @@ fn check_pages(alloc: Global, tiff: Tiff) -> Result<Report, Memory> {
 /// # Errors
 ///
 /// `Memory` where a growth was refused.
+// ensures { IfOk result (Spec.IsReport file.now) }
 pub fn check(alloc: Global, file: &[u8]) -> Result<Report, Memory> {
     match Tiff::read_header(file) {
         Ok(tiff) => check_pages(alloc, tiff),

@@ -1,3 +1,4 @@
+// Made by tools/plain-rust of crates/fax_walk/src/conversion.rt: change that.
 //! A file of pages turned into another: raw PBM or TIFF, into either of them.
 
 use kit_std::prelude::Vec;
@@ -14,11 +15,15 @@ use kit_std::alloc::Global;
 
 /// Converts images.
 // requires { BeginsWith bytes.now (codes "P4") }
+// ensures ok { IfOk result (λ output. Spec.IsConverted bytes.now options.now output) }
+// ensures err { IfErr result (λ fault. fault ≢ ConvertFault.Memory
+//     → Spec.IsNotConverted bytes.now options.now fault) }
 fn convert_images(alloc: Global, bytes: &[u8], options: &Options) -> Result<Parts, ConvertFault> {
     ImageConversion::new(alloc, *options)?.finish(bytes)
 }
 
 /// Why the rows of a TIFF file have ended. A walk from its first row on does not begin outside it.
+// ensures { result ≡ Reads.source_fault fault }
 fn source_fault(fault: WalkFault) -> ConvertFault {
     match fault {
         WalkFault::Memory => ConvertFault::Memory,
@@ -31,6 +36,8 @@ fn source_fault(fault: WalkFault) -> ConvertFault {
 #[inline(always)]
 // requires limits { IsPageForm last.now.form.now }
 // requires due { (part : Part) × Reads.IsLentDue options.now output.old last.now part }
+// ensures { OnOk result ((part : Part) → Reads.IsLentDue options.now output.old last.now part
+//     → IsPartWritten output.new part) }
 fn begin_page(
     alloc: Global,
     last: &LastRow,
@@ -47,6 +54,8 @@ fn begin_page(
 #[inline(always)]
 // requires limits { IsPageForm last.now.form.now }
 // requires due { (part : Part) × Reads.IsLentDue options.now output.old last.now part }
+// ensures { OnOk result ((part : Part) → Reads.IsLentDue options.now output.old last.now part
+//     → IsPutTo output.new (with_row part last.now.row.now)) }
 fn put_lent(
     alloc: Global,
     last: &LastRow,
@@ -66,6 +75,7 @@ fn put_lent(
 // requires untold { walk.now.told ≡ None }
 // requires due { (item : RowItem) × (part : Part)
 //     × Reads.IsItemDue options.now walk.now output.old item part }
+// ensures { OnOk result (Reads.PutsLast options.now walk.now output.old output.new) }
 fn put_last_row(
     alloc: Global,
     walk: &Walk,
@@ -74,7 +84,6 @@ fn put_last_row(
 ) -> Result<(), Memory> {
     // A reader of pages beside the walk would give the page's form too, but reads each directory
     // once more, and it has to be proved that the two stay on one page.
-    crate::laws::beginnings_have_one_tail();
     let Some(last) = walk.last_row() else {
         return Ok(());
     };
@@ -83,10 +92,10 @@ fn put_last_row(
 
 /// Converts a TIFF file.
 // requires { Spec.IsTiff file.now }
+// ensures ok { IfOk result (λ output. Spec.IsConverted file.now options.now output) }
+// ensures err { IfErr result (λ fault. fault ≢ ConvertFault.Memory
+//     → Spec.IsNotConverted file.now options.now fault) }
 fn convert_file(alloc: Global, file: &[u8], options: &Options) -> Result<Parts, ConvertFault> {
-    crate::laws::files_are_paged();
-    crate::laws::form_tails_are_one();
-    crate::laws::tails_go_on();
     let mut output = Output::new(alloc, options)?;
     let mut walk = Walk::start(alloc, file);
     loop {
@@ -105,6 +114,9 @@ fn convert_file(alloc: Global, file: &[u8], options: &Options) -> Result<Parts, 
 ///
 /// `UnknownInput` where it begins with none of them; else the first fault of the source, and then
 /// `OutputTooLarge`. `Memory` where a growth was refused.
+// ensures ok { IfOk result (λ output. Spec.IsConverted bytes.now options.now output) }
+// ensures err { IfErr result (λ fault. fault ≢ ConvertFault.Memory
+//     → Spec.IsNotConverted bytes.now options.now fault) }
 pub fn convert_parts(alloc: Global, bytes: &[u8], options: &Options) -> Result<Parts, ConvertFault> {
     if bytes.starts_with(b"P4") {
         convert_images(alloc, bytes, options)
@@ -120,6 +132,9 @@ pub fn convert_parts(alloc: Global, bytes: &[u8], options: &Options) -> Result<P
 /// # Errors
 ///
 /// As `convert_parts`.
+// ensures ok { IfOk result (λ output. Spec.IsConverted bytes.now options.now output.items) }
+// ensures err { IfErr result (λ fault. fault ≢ ConvertFault.Memory
+//     → Spec.IsNotConverted bytes.now options.now fault) }
 pub fn convert(alloc: Global, bytes: &[u8], options: &Options) -> Result<Vec<u8>, ConvertFault> {
     let parts = convert_parts(alloc, bytes, options)?;
     Ok(parts.into_bytes(alloc)?)

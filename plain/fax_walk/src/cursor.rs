@@ -1,3 +1,4 @@
+// Made by tools/plain-rust of crates/fax_walk/src/cursor.rt: change that.
 //! Places in a file's rows.
 
 use kit_std::prelude::String;
@@ -23,6 +24,8 @@ pub struct Cursor {
 pub struct NotACursor;
 
 /// The number up to 4,294,967,295 that these decimals spell, without leading zeros.
+// ensures ok { IfOk result (λ number. digits.now ≡ decimal number) }
+// ensures err { OnErr result ((number : ℕ) → number < 2 ^ 32 → digits.now ≢ decimal number) }
 pub(crate) fn number(digits: &str) -> Result<u32, NotACursor> {
     let Ok(number) = digits.parse::<u32>() else {
         return Err(NotACursor);
@@ -42,6 +45,9 @@ impl Cursor {
     /// # Errors
     ///
     /// `NotACursor` where the text is no cursor's.
+    // ensures ok { IfOk result (λ cursor. text.now ≡ cursor_text cursor) }
+    // ensures err { OnErr result
+    //     ((cursor : Cursor) → IsCursor cursor → text.now ≢ cursor_text cursor) }
     pub fn parse(text: &str) -> Result<Cursor, NotACursor> {
         let Some((version, place)) = text.split_once(':') else {
             return Err(NotACursor);
@@ -59,6 +65,7 @@ impl Cursor {
     }
 
     /// The cursor's text, `1:P:R` in decimals.
+    // ensures { result.bytes ≡ cursor_text self.now }
     pub fn text(&self) -> ArrayString<23> {
         let mut digits = Buffer::new();
         let mut text = ArrayString::new();
@@ -75,6 +82,9 @@ impl Cursor {
     /// # Errors
     ///
     /// `Memory` where a growth was refused; the text is then as it was.
+    // ensures ok { OnOk result (string_bytes text.new ≡ string_bytes text.old
+    //     ++ cursor_text self.now) }
+    // ensures err { OnErr result (string_bytes text.new ≡ string_bytes text.old) }
     pub fn put_text(&self, text: &mut String) -> Result<(), Memory> {
         text.push_str(self.text().as_str()).map_err(|_| Memory)
     }

@@ -1,3 +1,4 @@
+// Made by tools/plain-rust of crates/fax_walk/src/end.rt: change that.
 //! How the rows or the pages of a file end.
 
 use fax_files::{Cause, FileFault};
@@ -32,6 +33,7 @@ pub enum WalkFault {
 impl End {
     /// What a call answers that goes on to what comes next, where that has ended so: that there is
     /// nothing, or the fault.
+    // ensures { result ≡ answer_of self }
     pub(crate) fn answer(self) -> Result<bool, WalkFault> {
         match self {
             End::Proper => Ok(false),
@@ -41,6 +43,7 @@ impl End {
     }
 
     /// The end at a fault of the file, where this row of a page was due.
+    // ensures { result ≡ Fault page row (File fault) }
     pub(crate) fn of_file(page: u32, row: u32, fault: FileFault) -> End {
         End::Fault {
             page,

@@ -1,3 +1,4 @@
+// Made by tools/plain-rust of crates/fax_walk/src/image_conversion.rt: change that.
 //! Raw PBM that is converted as its bytes come.
 
 use crate::options::{ConvertFault, Options};
@@ -11,13 +12,15 @@ use kit_std::alloc::Global;
 
 /// Converts an image. Where the output is too large, its rows are not looked at.
 // requires { (at : Progress) × IsPageDue options.now output.old at }
+// ensures { OnOk result
+//     (Reads.PutsImage options.now output.old image.now.width image.now.rows image.now.raster.now
+//     output.new) }
 fn convert_image(
     alloc: Global,
     image: &PbmImage,
     options: &Options,
     output: &mut Output,
 ) -> Result<(), Memory> {
-    fax_rows::laws::packing_undoes_unpacking();
     output.begin(alloc, options, &Sheet::of_image(image))?;
     if let Output::TooLarge = output {
         return Ok(());
@@ -46,6 +49,8 @@ impl ImageConversion {
     /// # Errors
     ///
     /// `Memory` where a growth was refused.
+    // ensures begun { IfOk result (λ new. IsConverting [] options new.images new.output) }
+    // ensures options { IfOk result (λ new. new.options ≡ options) }
     pub fn new(alloc: Global, options: Options) -> Result<Self, Memory> {
         Ok(ImageConversion {
             alloc,
@@ -66,6 +71,13 @@ impl ImageConversion {
     // requires { (before : List ℕ)
     //     × IsConverting before self.old.options self.old.images self.old.output
     //     × (length before + length bytes.now < 2 ^ 64) }
+    // ensures left { IfOk result (λ taken. (fault : Option PbmFault)
+    //     × IsLeftBy bytes.now taken fault) }
+    // ensures so_far { IfOk result (λ taken. (before : List ℕ)
+    //     → IsConverting before self.old.options self.old.images self.old.output
+    //     → IsConverting (before ++ take taken bytes.now) self.new.options self.new.images
+    //     self.new.output) }
+    // ensures options { OnOk result (self.new.options ≡ self.old.options) }
     pub fn take_images(&mut self, bytes: &[u8]) -> Result<usize, Memory> {
         let (taken, _) = self.take_whole(bytes)?;
         Ok(taken)
@@ -76,6 +88,12 @@ impl ImageConversion {
     // requires { (before : List ℕ)
     //     × IsConverting before self.old.options self.old.images self.old.output
     //     × (length before + length bytes.now < 2 ^ 64) }
+    // ensures so_far { IfOk result (λ found. (before : List ℕ)
+    //     → IsConverting before self.old.options self.old.images self.old.output
+    //     → IsConverting (before ++ take found.0 bytes.now) self.new.options self.new.images
+    //     self.new.output) }
+    // ensures options { OnOk result (self.new.options ≡ self.old.options) }
+    // ensures fault { IfOk result (λ found. IsLeftBy bytes.now found.0 found.1) }
     fn take_whole(&mut self, bytes: &[u8]) -> Result<(usize, Option<PbmFault>), Memory> {
         let mut reader = PbmReader::new(bytes);
         loop {
@@ -98,6 +116,14 @@ impl ImageConversion {
     /// The first fault of an image; else `OutputTooLarge`. `Memory` where a growth was refused.
     // requires { (before : List ℕ) × IsConverting before self.options self.images self.output
     //     × (length before + length rest.now < 2 ^ 64) }
+    // ensures ok { IfOk result (λ output. (before : List ℕ)
+    //     → IsConverting before self.options self.images self.output
+    //     → BeginsWith (before ++ rest.now) (codes "P4")
+    //     → Spec.IsConverted (before ++ rest.now) self.options output) }
+    // ensures err { IfErr result (λ fault. fault ≢ ConvertFault.Memory → (before : List ℕ)
+    //     → IsConverting before self.options self.images self.output
+    //     → BeginsWith (before ++ rest.now) (codes "P4")
+    //     → Spec.IsNotConverted (before ++ rest.now) self.options fault) }
     pub fn finish(mut self, rest: &[u8]) -> Result<Parts, ConvertFault> {
         match self.take_whole(rest)? {
             (_, None) => self.output.finish(self.alloc),

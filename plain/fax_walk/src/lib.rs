@@ -1,3 +1,4 @@
+// Made by tools/plain-rust of crates/fax_walk/src/lib.rt: change that.
 //! The walk over the rows of a TIFF-F file, from its bytes to rows with their places.
 #![forbid(unsafe_code)]
 
@@ -7,7 +8,6 @@ mod conversion;
 mod cursor;
 mod end;
 mod image_conversion;
-pub mod laws;
 mod long_cursor;
 mod open_page;
 mod open_strips;

@@ -1,3 +1,4 @@
+// Made by tools/plain-rust of crates/fax_walk/src/long_cursor.rt: change that.
 //! Places inside strips.
 
 use kit_std::prelude::{String, Vec};
@@ -37,6 +38,7 @@ pub enum LongFault {
 }
 
 /// The number before the first colon, and what stands after it.
+// ensures { IsNumberCut text.now result }
 fn cut_number(text: &str) -> Option<(u32, &str)> {
     let (digits, rest) = text.split_once(':')?;
     match number(digits) {
@@ -46,6 +48,10 @@ fn cut_number(text: &str) -> Option<(u32, &str)> {
 }
 
 /// Appends the run of these digits.
+// ensures ok { OnOk result ((run : ℕ) × (digits.now ≡ decimal run)
+//     × (runs.new.items ≡ runs.old.items ++ run ∷ []) × (run < 2 ^ 32)) }
+// ensures err { IfErr result (λ fault. fault ≡ LongFault.NotACursor
+//     → (run : ℕ) → run < 2 ^ 32 → digits.now ≢ decimal run) }
 fn push_run(runs: &mut Vec<u32>, digits: &str) -> Result<(), LongFault> {
     match number(digits) {
         Ok(run) => runs.push(run).map_err(|_| LongFault::Memory),
@@ -54,6 +60,11 @@ fn push_run(runs: &mut Vec<u32>, digits: &str) -> Result<(), LongFault> {
 }
 
 /// The runs of a text, with commas between them.
+// ensures ok { IfOk result (λ runs. text.now ≡ runs_text runs.items) }
+// ensures some { IfOk result (λ runs. 0 < length runs.items) }
+// ensures short { IfOk result (λ runs. All (λ run. run < 2 ^ 32) runs.items) }
+// ensures err { IfErr result (λ fault. fault ≡ LongFault.NotACursor → (runs : List ℕ)
+//     → All (λ run. run < 2 ^ 32) runs → 0 < length runs → text.now ≢ runs_text runs) }
 fn parse_runs(alloc: Global, text: &str) -> Result<Vec<u32>, LongFault> {
     let mut runs = Vec::new(alloc);
     let mut rest = text;
@@ -66,17 +77,20 @@ fn parse_runs(alloc: Global, text: &str) -> Result<Vec<u32>, LongFault> {
 }
 
 /// Appends a text.
+// ensures ok { OnOk result (string_bytes text.new ≡ string_bytes text.old ++ more.now) }
 fn put(text: &mut String, more: &str) -> Result<(), Memory> {
     text.push_str(more).map_err(|_| Memory)
 }
 
 /// Appends a number in decimals.
+// ensures ok { OnOk result (string_bytes text.new ≡ string_bytes text.old ++ decimal number) }
 fn put_number(text: &mut String, number: u32) -> Result<(), Memory> {
     let mut digits = Buffer::new();
     put(text, digits.format(number))
 }
 
 /// Appends runs, with commas between them.
+// ensures ok { OnOk result (string_bytes text.new ≡ string_bytes text.old ++ runs_text runs.now) }
 fn put_runs(text: &mut String, runs: &[u32]) -> Result<(), Memory> {
     let Some((first, others)) = runs.split_first() else {
         return Ok(());
@@ -96,6 +110,10 @@ impl LongCursor {
     /// # Errors
     ///
     /// `NotACursor` where the text is no long cursor's, `Memory` where a growth was refused.
+    // ensures ok { IfOk result (λ cursor. text.now ≡ long_cursor_text cursor) }
+    // ensures range { IfOk result (λ cursor. IsLongCursor cursor) }
+    // ensures err { IfErr result (λ fault. fault ≡ LongFault.NotACursor
+    //     → (place : LongPlace) → IsLongCursor place → text.now ≢ long_cursor_text place) }
     pub fn parse(alloc: Global, text: &str) -> Result<LongCursor, LongFault> {
         let Some((version, place)) = cut_number(text) else {
             return Err(LongFault::NotACursor);
@@ -120,6 +138,8 @@ impl LongCursor {
     }
 
     /// Appends the text to an empty one; where a growth was refused, some of it.
+    // ensures ok { OnOk result (string_bytes text.new ≡ string_bytes text.old
+    //     ++ long_cursor_text self.now) }
     fn put_parts(&self, text: &mut String) -> Result<(), Memory> {
         put_number(text, VERSION)?;
         put(text, ":")?;
@@ -138,6 +158,9 @@ impl LongCursor {
     /// # Errors
     ///
     /// `Memory` where a growth was refused; the text is then as it was.
+    // ensures ok { OnOk result (string_bytes text.new ≡ string_bytes text.old
+    //     ++ long_cursor_text self.now) }
+    // ensures err { OnErr result (string_bytes text.new ≡ string_bytes text.old) }
     pub fn put_text(&self, text: &mut String) -> Result<(), Memory> {
         // It takes a long cursor without runs too, whose text is none that is read.
         let mut own = String::new(*text.allocator());

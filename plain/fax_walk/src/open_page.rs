@@ -1,3 +1,4 @@
+// Made by tools/plain-rust of crates/fax_walk/src/open_page.rt: change that.
 //! A page whose rows are read, strip by strip.
 
 use crate::opening::{DuePage, OpenFault};
@@ -31,6 +32,7 @@ impl<'a> Model for OpenPage<'a> {}
 
 /// A row for colours that are exchanged, where they are.
 // requires { IsPageForm form.now }
+// ensures { IfOk result (Spec.IsRoomFor form.now) }
 pub(crate) fn row_for_exchange(alloc: Global, form: &PageForm) -> Result<Option<Row>, Memory> {
     if form.exchanged {
         Ok(Some(Row::white(alloc, form.width)?))
@@ -42,6 +44,7 @@ pub(crate) fn row_for_exchange(alloc: Global, form: &PageForm) -> Result<Option<
 /// Takes the pels of another row of the same width, with their colours exchanged.
 #[inline(never)]
 // requires { length from.now ≡ length row.old }
+// ensures { row.new ≡ map other from.now }
 pub(crate) fn set_exchanged(row: &mut Row, from: &Row) {
     row.set_from(from);
     row.exchange();
@@ -51,6 +54,13 @@ pub(crate) fn set_exchanged(row: &mut Row, from: &Row) {
 /// rows were read before.
 // requires there { first < due.form.rows }
 // requires few { before ≤ due.page * most_rows }
+// ensures opened { IfOk result (Spec.IsOpenedAt due.entry.directory.file
+//     (first_at due.entry.page (strip_at due.entry.form first * due.entry.form.rows_per_strip))
+//     (row_in_strip due.entry.form first) before) }
+// ensures page { IfOk result (λ page. page.page ≡ due.entry.page) }
+// ensures first { IfOk result (λ page. page.first ≡ first) }
+// ensures refused { IfErr result (Spec.IsRefusal (Spec.IsNoStrip due.entry first)) }
+// ensures there { HasPage due.entry.directory.file due.entry.page }
 pub(crate) fn open<'a>(
     alloc: Global,
     due: DuePage<'a>,
@@ -84,6 +94,11 @@ pub(crate) fn open<'a>(
 /// rows were read before.
 // requires chain { IsFileChain chain.now }
 // requires few { before ≤ chain.now.given * most_rows }
+// ensures opened { IfOk result
+//     (Spec.IsOpenedAt chain.now.tiff.file (first_at chain.now.given 0) 0 before) }
+// ensures refused { IfErr result (Spec.IsRefusal (λ end.
+//     IsRow chain.now.tiff.file (first_at chain.now.given 0) (ends_as end))) }
+// ensures there { result ≡ Err NoMemory → HasPage chain.now.tiff.file chain.now.given }
 pub(crate) fn open_after<'a>(
     alloc: Global,
     chain: &Chain<'a>,
@@ -99,6 +114,8 @@ pub(crate) fn open_after<'a>(
 // requires count { length bytes.now ≤ 4294967295 }
 // requires limits { IsStripForm form }
 // requires row { row < form.rows }
+// ensures ok { IfOk result (Spec.IsAtPlace form bytes.now row place.now) }
+// ensures err { IfErr result (Spec.IsNoPlace form bytes.now place.now) }
 fn strip_at<'a>(
     alloc: Global,
     bytes: &'a [u8],
@@ -112,12 +129,17 @@ fn strip_at<'a>(
 
 /// Opens a page that is due at a place inside a strip of it.
 // requires { due.page ≡ place.now.at.page }
+// ensures opened { IfOk result
+//     (Spec.IsOpenedAt due.entry.directory.file (inner_at place.now) 0 0) }
+// ensures inner { OnOk result (IsInnerOn due.entry.directory.file
+//     (page_with due.entry.directory due.entry.form) place.now) }
+// ensures refused { IfErr result (Spec.IsRefusal (Spec.IsNoInner due.entry place.now)) }
+// ensures within { result ≡ Err NoMemory → place.now.at.row < due.entry.form.rows }
 pub(crate) fn open_inside<'a>(
     alloc: Global,
     due: DuePage<'a>,
     place: &LongCursor,
 ) -> Result<OpenPage<'a>, OpenFault> {
-    fax_files::laws::forms_are_whole();
     let form = due.form;
     let row = place.at.row;
     if row >= form.rows || row % form.rows_per_strip == 0 {
@@ -156,21 +178,32 @@ pub(crate) fn open_inside<'a>(
 impl<'a> OpenPage<'a> {
     /// Opens the page after this one, all rows of which are read.
     // requires { row_of self.now ≡ self.now.form.rows }
+    // ensures opened { IfOk result
+    //     (Spec.IsOpenedAt self.now.directory.file (place_of self.now) 0 self.now.read) }
+    // ensures refused { IfErr result (Spec.IsRefusal (λ end.
+    //     IsRow self.now.directory.file (place_of self.now) (ends_as end))) }
+    // ensures there { result ≡ Err NoMemory
+    //     → HasPage self.now.directory.file (self.now.page + 1) }
     pub(crate) fn open_next(&self, alloc: Global) -> Result<OpenPage<'a>, OpenFault> {
         open_after(alloc, &self.chain, self.rows_read())
     }
 
     /// The number of the row that is due, or how many rows the page has, once all are read.
+    // ensures due { result ≡ row_of self.now }
+    // ensures within { result ≤ self.now.form.rows }
     fn due(&self) -> u32 {
         self.number * self.form.rows_per_strip + self.strip.row()
     }
 
     /// Whether all rows of the page are read.
+    // ensures read { result ≡ true → row_of self.now ≡ self.now.form.rows }
+    // ensures due { result ≡ false → row_of self.now < self.now.form.rows }
     fn is_read(&self) -> bool {
         self.due() == self.form.rows
     }
 
     /// The place of the row that is due, or the one after the last row.
+    // ensures { result ≡ record { page = self.now.page; row = row_of self.now } }
     pub(crate) fn cursor(&self) -> Cursor {
         Cursor {
             page: self.page,
@@ -179,12 +212,15 @@ impl<'a> OpenPage<'a> {
     }
 
     /// How many rows the walk has read.
+    // ensures { result ≡ self.now.read }
     pub(crate) fn rows_read(&self) -> u64 {
         self.before + self.strip.rows_read()
     }
 
     /// The place inside the strip after the row that was read last, if the strip goes on after
     /// it, and its bits have a number of 32 bits.
+    // ensures { let at = place_of self.now in
+    //     place_inside result ≡ long_at (cursor_at at) at.inner }
     pub(crate) fn lend_place(&self) -> Option<PlaceInside<'_>> {
         let place = self.strip.bit_place();
         let row = self.strip.row();
@@ -206,6 +242,8 @@ impl<'a> OpenPage<'a> {
     /// # Errors
     ///
     /// `Memory` where a growth was refused.
+    // ensures { IfOk result (λ place. let at = place_of self.now in
+    //     place ≡ long_at (cursor_at at) at.inner) }
     pub(crate) fn long_cursor(&self, alloc: Global) -> Result<Option<LongCursor>, Memory> {
         let Some(place) = self.lend_place() else {
             return Ok(None);
@@ -223,6 +261,10 @@ impl<'a> OpenPage<'a> {
     // requires open { Spec.IsOpen self.old }
     // requires all_read { self.old.strip.row ≡ self.old.strip.form.rows }
     // requires due { row_of self.old < self.old.form.rows }
+    // ensures keeps { Spec.KeepsPlace self.old self.new }
+    // ensures there { result ≡ true → Spec.IsNextStrip self.old self.new }
+    // ensures outside { result ≡ false → Spec.StopsAtRow self.old
+    //     (Fault self.old.page (row_of self.old) (File StripOutside)) }
     fn next_strip(&mut self) -> bool {
         // It stands apart, so that the step from row to row is short enough to be written out in
         // its callers.
@@ -240,6 +282,8 @@ impl<'a> OpenPage<'a> {
 
     /// Exchanges the colours of the row that was read, where they are exchanged.
     #[inline(always)]
+    // ensures same { self.new ≡ record self.old { shown = self.new.shown } }
+    // ensures shown { self.new.shown ≡ exchanged self.old.form self.old.strip.reference }
     fn show_exchanged(&mut self) {
         if let Some(row) = &mut self.exchanged {
             set_exchanged(row, self.strip.reference());
@@ -249,8 +293,11 @@ impl<'a> OpenPage<'a> {
     /// Reads the row that is due, and answers whether there was one, or how the rows end there.
     #[inline(always)]
     // requires { Spec.IsOpen self.old }
+    // ensures ok { IfOk result (λ some. Spec.ReadsRowOrNone some self.old self.new) }
+    // ensures keeps { OnErr result (Spec.KeepsPlace self.old self.new) }
+    // ensures err { IfErr result (Spec.StopsAtRow self.old) }
     fn read_due(&mut self) -> Result<bool, End> {
-        'strips: loop {
+        loop {
             match self.strip.advance() {
                 Ok(true) => {
                     self.show_exchanged();
@@ -279,8 +326,10 @@ impl<'a> OpenPage<'a> {
     /// rows end before it.
     #[inline(always)]
     // requires { Spec.IsOpen self.old }
+    // ensures ok { IfOk result (λ some. Spec.GivesRowOrNone some self.old self.new) }
+    // ensures err { IfErr result (λ end. Spec.GivesNone self.old end self.new) }
     pub(crate) fn next_row(&mut self) -> Result<bool, End> {
-        'rows: loop {
+        loop {
             if !self.read_due()? {
                 return Ok(false);
             }
@@ -291,11 +340,14 @@ impl<'a> OpenPage<'a> {
     }
 
     /// The page's form.
+    // ensures same { result.now ≡ self.now.form }
+    // ensures limits { IsPageForm result.now }
     pub(crate) fn form(&self) -> &PageForm {
         &self.form
     }
 
     /// The row that was read last, as it is handed out.
+    // ensures { result.now ≡ self.now.shown }
     pub(crate) fn row(&self) -> &Row {
         match &self.exchanged {
             Some(row) => row,

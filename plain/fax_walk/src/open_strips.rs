@@ -1,3 +1,4 @@
+// Made by tools/plain-rust of crates/fax_walk/src/open_strips.rt: change that.
 //! The strips of a page that is being written.
 
 use kit_std::prelude::Vec;
@@ -22,6 +23,7 @@ impl OpenStrips {
     /// Before the first row.
     // requires limits { IsPageForm form }
     // requires some_k { 0 < k }
+    // ensures { Spec.HasPutRows form k [] result }
     pub(crate) fn new(alloc: Global, form: PageForm, k: u32) -> Self {
         OpenStrips {
             alloc,
@@ -37,6 +39,7 @@ impl OpenStrips {
     #[inline(never)]
     // requires limits { IsStripForm form }
     // requires some_k { 0 < self.old.k }
+    // ensures { OnOk result (Spec.BeginsStrip form self.old self.new) }
     fn begin_strip(&mut self, form: StripForm) -> Result<(), Memory> {
         self.writer = Some(StripWriter::new(self.alloc, form, self.k)?);
         Ok(())
@@ -46,8 +49,8 @@ impl OpenStrips {
     #[inline(always)]
     // requires number { strip ≡ length self.old.done.items }
     // requires due { (row : List Colour) × Spec.TakesRow self.old row }
+    // ensures { OnOk result (Spec.OpensStrip self.old self.new) }
     fn open_strip(&mut self, strip: u32) -> Result<(), Memory> {
-        fax_page::laws::strips_are_written_row_by_row();
         if let Some(_) = self.writer {
             return Ok(());
         }
@@ -58,6 +61,7 @@ impl OpenStrips {
     /// Writes the strip that is open, all rows of which were put.
     #[inline(never)]
     // requires { Spec.HasWholeStrip self.old }
+    // ensures { OnOk result (Spec.EndsStrip self.old self.new) }
     fn end_strip(&mut self) -> Result<(), Memory> {
         let Some(writer) = self.writer.take() else {
             unreachable!();
@@ -69,8 +73,8 @@ impl OpenStrips {
     /// Writes the next row, and its strip where that is whole then. The strip's writer stays where
     /// it is between the strip's rows.
     // requires { Spec.TakesRow self.old row.now }
+    // ensures { OnOk result (Spec.PutsRow self.old row.now self.new) }
     pub(crate) fn put_row(&mut self, row: &Row) -> Result<(), Memory> {
-        fax_page::laws::strips_are_written_row_by_row();
         let strip = self.done.len() as u32;
         self.open_strip(strip)?;
         let Some(writer) = &mut self.writer else {

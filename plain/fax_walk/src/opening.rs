@@ -1,8 +1,9 @@
+// Made by tools/plain-rust of crates/fax_walk/src/opening.rt: change that.
 //! The pages of a file, from its header and its chain of directories on.
 
 use crate::{Cursor, End};
 use fax_bits::Memory;
-use fax_files::{Chain, FileFault, PageForm, Strips, Tiff};
+use fax_files::{Chain, PageForm, Strips, Tiff};
 use fax_page::PlaceFault;
 use kit_std::marker::Model;
 
@@ -49,6 +50,8 @@ impl<'a> Model for DuePage<'a> {}
 
 /// The chain of a file's directories, before the one of this number, or how the rows end where
 /// there are fewer before it.
+// ensures ok { IfOk result (λ chain. Spec.IsChainBefore file.now page chain) }
+// ensures err { IfErr result (Spec.IsNoPage file.now page) }
 pub(crate) fn chain_before<'a>(file: &'a [u8], page: u32) -> Result<Chain<'a>, End> {
     let tiff = match Tiff::read_header(file) {
         Ok(tiff) => tiff,
@@ -69,6 +72,7 @@ impl<'a> DuePage<'a> {
     /// The page that is due after the directories that a chain has handed out, or none after the
     /// last one, or the fault in its place.
     // requires { Spec.IsFileChain chain }
+    // ensures { Spec.IsPageAnswer chain.entry result }
     pub(crate) fn after(mut chain: Chain<'a>) -> Result<Option<Self>, End> {
         let page = chain.given();
         let directory = match chain.next() {
@@ -89,6 +93,8 @@ impl<'a> DuePage<'a> {
 
     /// The page that a cursor names, or none after the last page, or how the rows end where the
     /// cursor names no place of the file.
+    // ensures ok { IfOk result (Spec.IsNamed file.now cursor) }
+    // ensures err { IfErr result (Spec.EndsAt file.now cursor) }
     pub(crate) fn at(file: &'a [u8], cursor: Cursor) -> Result<Option<Self>, End> {
         let chain = chain_before(file, cursor.page)?;
         let Some(page) = DuePage::after(chain)? else {

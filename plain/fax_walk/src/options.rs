@@ -1,3 +1,4 @@
+// Made by tools/plain-rust of crates/fax_walk/src/options.rt: change that.
 //! What a file is converted to, and why it is not.
 
 use crate::Cause;
@@ -20,6 +21,7 @@ pub enum Target {
 
 impl Target {
     /// How rows are coded, in a TIFF file.
+    // ensures { result ≡ coding_of self }
     pub(crate) fn coding(self) -> Option<Coding> {
         match self {
             Target::Pbm => None,

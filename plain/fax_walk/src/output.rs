@@ -1,3 +1,4 @@
+// Made by tools/plain-rust of crates/fax_walk/src/output.rt: change that.
 //! What a conversion writes, page by page.
 
 use crate::open_strips::OpenStrips;
@@ -30,6 +31,7 @@ pub(crate) enum Output {
 
 impl Output {
     /// The output before the first page.
+    // ensures { IfOk result (Spec.IsBeginning options.now) }
     pub(crate) fn new(alloc: Global, options: &Options) -> Result<Self, Memory> {
         let Some(coding) = options.target.coding() else {
             return Ok(Output::Images(Parts::new(alloc)));
@@ -41,13 +43,13 @@ impl Output {
     /// Begins a page.
     // requires limits { Spec.IsSheet sheet.now }
     // requires due { (at : Progress) × Spec.IsPageDue options.now self.old at }
+    // ensures { OnOk result (Spec.BeginsPage options.now self.old sheet.now self.new) }
     pub(crate) fn begin(
         &mut self,
         alloc: Global,
         options: &Options,
         sheet: &Sheet,
     ) -> Result<(), Memory> {
-        fax_rows::laws::packing_undoes_unpacking();
         match self {
             Output::Images(parts) => {
                 parts.put_head(sheet.width, sheet.rows)?;
@@ -73,8 +75,8 @@ impl Output {
     /// Writes the next row of the page.
     #[inline(always)]
     // requires { Spec.TakesRow self.old row.now }
+    // ensures { OnOk result (Spec.PutsRow self.old row.now self.new) }
     pub(crate) fn put_row(&mut self, row: &Row) -> Result<(), Memory> {
-        fax_rows::laws::packing_undoes_unpacking();
         match self {
             Output::Images(parts) => parts.put_row(row),
             Output::File(_, _, Some(page)) => page.put_row(row),
@@ -85,8 +87,8 @@ impl Output {
 
     /// Ends the page, of which all rows were written.
     // requires { Spec.HasAllRows self.old }
+    // ensures { OnOk result (Spec.EndsPage self.old self.new) }
     pub(crate) fn end(&mut self) -> Result<(), Memory> {
-        fax_files::laws::totals_are_told();
         let Output::File(_, writer, open) = self else {
             return Ok(());
         };
@@ -104,8 +106,9 @@ impl Output {
     }
 
     /// The bytes of all pages.
+    // ensures ok { IfOk result (Spec.FinishesAs self) }
+    // ensures err { IfErr result (Spec.IsRefusedAs self) }
     pub(crate) fn finish(self, alloc: Global) -> Result<Parts, ConvertFault> {
-        fax_files::laws::totals_are_told();
         match self {
             Output::Images(parts) => Ok(parts),
             Output::File(_, writer, _) => Ok(Parts::of_bytes(alloc, writer.finish())),

@@ -1,3 +1,4 @@
+// Made by tools/plain-rust of crates/fax_walk/src/pages.rt: change that.
 //! The pages of a file in the order of their chain, with their forms.
 
 use crate::opening::DuePage;
@@ -34,6 +35,8 @@ impl<'a> Model for Pages<'a> {}
 
 /// The page after the directories that a chain has handed out, or how the pages end there.
 // requires { IsFileChain chain }
+// ensures ok { IfOk result (λ due. Spec.IsPageAfter chain.entry due) }
+// ensures err { IfErr result (λ end. IsForm chain.entry.tiff.file chain.entry.given (ends_as end)) }
 fn page_after<'a>(chain: Chain<'a>) -> Result<DuePage<'a>, End> {
     match DuePage::after(chain) {
         Ok(Some(page)) => Ok(page),
@@ -44,6 +47,8 @@ fn page_after<'a>(chain: Chain<'a>) -> Result<DuePage<'a>, End> {
 
 /// The first page from a cursor on: the one that it names at row 0, else the one after it; or how
 /// the pages end there.
+// ensures ok { IfOk result (Spec.IsFirstDue file.now cursor) }
+// ensures err { IfErr result (IsFormTail file.now cursor []) }
 fn first_page<'a>(file: &'a [u8], cursor: Cursor) -> Result<DuePage<'a>, End> {
     let Some(page) = DuePage::at(file, cursor)? else {
         return Err(End::Proper);
@@ -57,12 +62,14 @@ fn first_page<'a>(file: &'a [u8], cursor: Cursor) -> Result<DuePage<'a>, End> {
 
 impl<'a> Pages<'a> {
     /// A reader of all pages of a file, from any bytes. Nothing is read yet.
+    // ensures { result ≡ pages_start file.now }
     pub fn start(file: &'a [u8]) -> Self {
         Pages::resume(file, Cursor { page: 0, row: 0 })
     }
 
     /// A reader of the pages of a file from a cursor on: from the page that it names at row 0, else
     /// from the one after it. Nothing is read yet.
+    // ensures { result ≡ pages_from file.now cursor }
     pub fn resume(file: &'a [u8], cursor: Cursor) -> Self {
         Pages {
             file,
@@ -74,23 +81,20 @@ impl<'a> Pages<'a> {
     }
 
     /// The cursor after the last page that was handed out, or the one that the reader began with.
+    // ensures { IsCursorOfPages self.now result }
     pub fn cursor(&self) -> Cursor {
         self.cursor
     }
 
     /// The page that is due, or how the pages end.
+    // ensures ok { IfOk result (Spec.IsDueIn self.now) }
+    // ensures err { IfErr result (Spec.EndsNow self.now) }
     fn due(&self) -> Result<DuePage<'a>, End> {
         match &self.stage {
             PagesStage::Before => first_page(self.file, self.begun),
             PagesStage::After(chain) => page_after(chain.again()),
             PagesStage::Ended(end) => Err(*end),
         }
-    }
-
-    /// Pages are left, and an end. It computes nothing.
-    pub(crate) fn forms_are_left(&self) {
-        crate::laws::form_tails_are_one();
-        let _ = &self.stage;
     }
 
     /// Hands out the next page's number, from 0, and its form, or `None` once all pages were handed
@@ -100,8 +104,8 @@ impl<'a> Pages<'a> {
     ///
     /// `AtRow` at the fault that ends the pages, `CursorOutside` where the reader began at no place
     /// of the file, from then on. Never `Memory`.
+    // ensures { IsNextPage self.old result self.new }
     pub fn next_page(&mut self) -> Result<Option<(u32, PageForm)>, WalkFault> {
-        crate::laws::form_tails_are_one();
         match self.due() {
             Ok(page) => {
                 self.given += 1;

@@ -1,3 +1,4 @@
+// Made by tools/plain-rust of crates/fax_walk/src/parts.rt: change that.
 //! The bytes of an output, of which white rows are not held.
 
 use kit_std::prelude::Vec;
@@ -33,11 +34,13 @@ impl Model for Parts {}
 
 impl Parts {
     /// No bytes.
+    // ensures { result ≡ [] }
     pub(crate) fn new(alloc: Global) -> Self {
         Parts::of_bytes(alloc, Vec::new(alloc))
     }
 
     /// These bytes, all of them held.
+    // ensures { result ≡ bytes.items }
     pub(crate) fn of_bytes(alloc: Global, bytes: Vec<u8>) -> Self {
         Parts {
             held: bytes,
@@ -48,11 +51,13 @@ impl Parts {
     }
 
     /// How many bytes there are.
+    // ensures { result ≡ length self.now }
     pub fn len(&self) -> usize {
         self.held.len() + self.zeros
     }
 
     /// All parts, in order.
+    // ensures { result ≡ self.now }
     pub fn parts(&self) -> PartsLeft<'_> {
         PartsLeft {
             held: &self.held,
@@ -62,6 +67,7 @@ impl Parts {
 
     /// Appends an image's header.
     // requires { length self.old ≤ max_file }
+    // ensures { OnOk result (self.new ≡ self.old ++ head_bytes width rows) }
     pub(crate) fn put_head(&mut self, width: u32, rows: u32) -> Result<(), Memory> {
         put_pbm_head(&mut self.held, width, rows)
     }
@@ -69,6 +75,7 @@ impl Parts {
     /// Appends zeros, which are not held, to bytes that are some already.
     // requires begun { 1 ≤ length self.old }
     // requires room { length self.old + zeros ≤ max_file }
+    // ensures { OnOk result (self.new ≡ self.old ++ replicate zeros 0) }
     fn put_zeros(&mut self, zeros: usize) -> Result<(), Memory> {
         let held = self.held.len() - self.placed;
         if held == 0 {
@@ -86,8 +93,8 @@ impl Parts {
     /// Appends a row of an image, eight pels in a byte.
     #[inline(always)]
     // requires { length self.old + packed_len (length row.now) ≤ max_file }
+    // ensures { OnOk result (self.new ≡ self.old ++ packed_row row.now) }
     pub(crate) fn put_row(&mut self, row: &Row) -> Result<(), Memory> {
-        fax_rows::laws::packing_undoes_unpacking();
         let len = (row.width() as usize).div_ceil(8);
         if len >= LEAST_GAP && !self.held.is_empty() && row.is_white() {
             return self.put_zeros(len);
@@ -96,6 +103,7 @@ impl Parts {
     }
 
     /// All bytes.
+    // ensures { IfOk result (λ bytes. bytes.items ≡ self) }
     pub(crate) fn into_bytes(self, alloc: Global) -> Result<Vec<u8>, Memory> {
         if self.gaps.is_empty() {
             return Ok(self.held);
@@ -132,6 +140,10 @@ impl<'a> Model for PartsLeft<'a> {}
 
 impl<'a> PartsLeft<'a> {
     /// The next part, or none where all parts were handed out.
+    // ensures part { IfSome result (λ part. self.old ≡ part_bytes part ++ self.new) }
+    // ensures some { IfSome result (λ part. 0 < length part.held.now) }
+    // ensures end { IfNone result (self.old ≡ []) }
+    // ensures unchanged { IfNone result (self.new ≡ self.old) }
     pub fn next_part(&mut self) -> Option<Part<'a>> {
         let Some((gap, others)) = self.gaps.split_first() else {
             if self.held.is_empty() {

@@ -1,3 +1,4 @@
+// Made by tools/plain-rust of crates/fax_walk/src/rows_from.rt: change that.
 //! The rows that are left of a page from a place on, one after another.
 
 use crate::salvage_rows::{PagePart, PlaceInStrip};
@@ -23,6 +24,10 @@ impl<'a> RowsFrom<'a> {
     // requires limits { IsPageForm form }
     // requires count { strips.count ≡ form.strips }
     // requires due { row < form.rows }
+    // ensures ok { IfOk result (Spec.IsBegunFrom (Code.page_of strips.entry.directory form) row bits
+    //     before.entry) }
+    // ensures err { IfErr result (Spec.IsNotBegunFrom (Code.page_of strips.entry.directory form) row
+    //     bits before.entry) }
     pub(crate) fn open(
         alloc: Global,
         form: PageForm,
@@ -37,6 +42,7 @@ impl<'a> RowsFrom<'a> {
 
     /// What became of the row that is due, and of those that are lost with it, or `None` after the
     /// page's last one. It takes no memory.
+    // ensures { Spec.IsNextFrom self.old result self.new }
     pub fn next_part(&mut self) -> Option<PagePart> {
         self.rows.next_part()
     }
@@ -45,16 +51,20 @@ impl<'a> RowsFrom<'a> {
     /// where its strip begins with it, or the page has no more. Then what is left from that place
     /// on is what is left now.
     // requires { length self.now.file ≤ 536870911 }
+    // ensures { Spec.IsPlaceNow self.now result }
     pub fn place(&self) -> Option<PlaceInStrip<'_>> {
         self.rows.place()
     }
 
     /// The row that was found last.
+    // ensures pels { result.now ≡ self.now.last }
+    // ensures width { length result.now ≡ self.now.here.form.width }
     pub fn row(&self) -> &Row {
         self.rows.row()
     }
 
     /// Rows are left of the page, or none: it computes nothing.
+    // ensures { (rows : List PageRow) × Spec.AreLeftNow self.now rows }
     pub fn rows_are_left(&self) {
         self.rows.rows_are_left();
     }

@@ -1,3 +1,4 @@
+// Made by tools/plain-rust of crates/fax_walk/src/rows_left.rt: change that.
 //! The rows that are left of a page, or of a strip with no file around it, one after another.
 
 use crate::opening::DuePage;
@@ -16,27 +17,26 @@ use kit_std::marker::Model;
 enum Left<'a> {
     Page(ShownRows<'a>),
     /// A strip of these bytes.
-    Strip(SalvageReader<'a>, &'a [u8]),
+    Strip(SalvageReader<'a>),
     /// Rows of these bytes that nobody counted, and how many they are.
-    Uncounted(UncountedSalvage<'a>, &'a [u8], u32),
+    Uncounted(UncountedSalvage<'a>),
 }
 
 /// What becomes of the row that is due, or `None` after the last one.
 // requires { Spec.IsGoneOver left.old }
+// ensures { Spec.IsNextOf left.old result left.new }
 fn next_of(left: &mut Left) -> Option<PagePart> {
-    fax_page::laws::strips_are_salvaged_in_one_way();
-    fax_page::laws::uncounted_rows_are_left_in_one_way();
     match left {
         Left::Page(its) => {
             let part = its.next_part();
             its.rows_are_left();
             part
         }
-        Left::Strip(reader, _) => match reader.next_salvaged() {
+        Left::Strip(reader) => match reader.next_salvaged() {
             Some(salvaged) => Some(part_of(salvaged, true)),
             None => None,
         },
-        Left::Uncounted(reader, _, _) => match reader.next_salvaged() {
+        Left::Uncounted(reader) => match reader.next_salvaged() {
             Ok(salvaged) => Some(part_of(salvaged, true)),
             Err(_end) => None,
         },
@@ -58,6 +58,8 @@ impl<'a> PageLeft<'a> {
     /// # Errors
     ///
     /// How the rows end there, where the file has no such page, or it is refused.
+    // ensures ok { IfOk result (IsFoundPage file.now page) }
+    // ensures err { IfErr result (λ end. (read_page file.now (record { page = page; row = 0 }) ≡ Err end)) }
     pub fn at(file: &'a [u8], page: u32) -> Result<Self, End> {
         match DuePage::at(file, Cursor { page, row: 0 })? {
             Some(due) => Ok(PageLeft { due }),
@@ -66,6 +68,8 @@ impl<'a> PageLeft<'a> {
     }
 
     /// Its form.
+    // ensures form { result ≡ self.now.here.form }
+    // ensures limits { IsPageForm result }
     pub fn form(&self) -> PageForm {
         self.due.form
     }
@@ -75,6 +79,8 @@ impl<'a> PageLeft<'a> {
     /// # Errors
     ///
     /// `Memory` where a growth was refused.
+    // ensures { IfOk result (IsRowsStart (of_page self.entry.file self.entry.here)
+    //     self.entry.here.form.rows self.entry.here.form.width) }
     pub fn rows(self, alloc: Global) -> Result<RowsLeft<'a>, Memory> {
         let rows = ShownRows::open(alloc, self.due.form, self.due.strips)?;
         Ok(RowsLeft {
@@ -90,6 +96,8 @@ impl<'a> PageLeft<'a> {
     /// `Outside` where the file has fewer bits of the strip, or no row of the page's width has the
     /// runs of the row before. `Memory` where a growth was refused.
     // requires { row < self.here.form.rows }
+    // ensures ok { IfOk result (IsBegunFrom self.entry row bits before.entry) }
+    // ensures err { IfErr result (IsNotBegunFrom self.entry row bits before.entry) }
     pub fn rows_from(
         self,
         alloc: Global,
@@ -129,10 +137,12 @@ impl<'a> RowsLeft<'a> {
     /// `Memory` where a growth was refused.
     // requires count { length bytes.now ≤ 4294967295 }
     // requires limits { IsStripForm form }
+    // ensures { IfOk result
+    //     (IsRowsStart (of_strip form (bits form.order bytes.now)) form.rows form.width) }
     pub fn of_strip(alloc: Global, bytes: &'a [u8], form: StripForm) -> Result<Self, Memory> {
         let reader = SalvageReader::new(alloc, bytes, form)?;
         Ok(RowsLeft {
-            left: Left::Strip(reader, bytes),
+            left: Left::Strip(reader),
         })
     }
 
@@ -145,17 +155,18 @@ impl<'a> RowsLeft<'a> {
     /// `Memory` where a growth was refused.
     // requires count { length bytes.now ≤ 4294967295 }
     // requires limits { IsStripForm form }
+    // ensures { IfOk result (λ found. IsUncountedStart form (bits form.order bytes.now)
+    //     found.rows_left found.rows found.end) }
     pub fn of_uncounted(
         alloc: Global,
         bytes: &'a [u8],
         form: StripForm,
     ) -> Result<UncountedLeft<'a>, Memory> {
-        fax_page::laws::uncounted_rows_are_left_in_one_way();
         let mut reader = UncountedSalvage::new(alloc, bytes, form)?;
         let end = reader.pass_all();
         let rows = reader.row();
         reader.restart(bytes);
-        let left = Left::Uncounted(reader, bytes, rows);
+        let left = Left::Uncounted(reader);
         Ok(UncountedLeft {
             rows_left: RowsLeft { left },
             rows,
@@ -165,17 +176,19 @@ impl<'a> RowsLeft<'a> {
 
     /// What became of the row that is due, and of those that are lost with it, or `None` after the
     /// last one. It takes no memory.
+    // ensures { IsNextPart self.old result self.new }
     pub fn next_part(&mut self) -> Option<PagePart> {
-        crate::laws::rows_are_left_in_one_way();
         next_of(&mut self.left)
     }
 
     /// The row that was found last.
+    // ensures pels { result.now ≡ self.now.last }
+    // ensures width { length result.now ≡ self.now.width }
     pub fn row(&self) -> &Row {
         match &self.left {
             Left::Page(its) => its.row(),
-            Left::Strip(reader, _) => reader.reference(),
-            Left::Uncounted(reader, _, _) => reader.reference(),
+            Left::Strip(reader) => reader.reference(),
+            Left::Uncounted(reader) => reader.reference(),
         }
     }
 }

@@ -1,3 +1,4 @@
+// Made by tools/plain-rust of crates/fax_walk/src/salvage.rt: change that.
 //! What is left of a damaged file: the rows that are found, and the stretches that are lost.
 
 use crate::Place;
@@ -54,6 +55,7 @@ enum NextPage<'a> {
 #[cold]
 #[inline(never)]
 // requires { IsFileChain chain.now }
+// ensures { IfOk result (Spec.IsNextPage chain.now) }
 fn next_page<'a>(alloc: Global, chain: &Chain<'a>) -> Result<NextPage<'a>, Memory> {
     let number = chain.given();
     let mut chain = chain.again();
@@ -73,6 +75,8 @@ fn next_page<'a>(alloc: Global, chain: &Chain<'a>) -> Result<NextPage<'a>, Memor
 
 /// Leaves the page that is gone through, if one is, and answers whether it lies wholly in the file,
 /// and no row of it is lost.
+// ensures none { page.new ≡ None }
+// ensures clean { result ≡ Spec.was_clean page.old }
 fn leave(page: &mut Option<SalvagePage>) -> bool {
     let clean = match page {
         None => true,
@@ -85,6 +89,7 @@ fn leave(page: &mut Option<SalvagePage>) -> bool {
 /// Hands out what is next on the page that is gone through, or `None` where nothing is left of it,
 /// or no page was entered.
 #[inline(always)]
+// ensures { Spec.GivesItem page.old result page.new }
 fn item_of_page(page: &mut Option<SalvagePage>) -> Option<SalvageItem> {
     match page {
         None => None,
@@ -101,7 +106,6 @@ fn item_of_page(page: &mut Option<SalvagePage>) -> Option<SalvageItem> {
 /// file, how many items it handed out, and the row that was found last.
 pub struct Salvage<'a> {
     alloc: Global,
-    file: &'a [u8],
     /// The directories that are due, or none where the file has no good header.
     chain: Option<Chain<'a>>,
     /// The page that is gone through, if one was entered.
@@ -116,11 +120,11 @@ impl<'a> Model for Salvage<'a> {}
 
 impl<'a> Salvage<'a> {
     /// Before the first page of a file, from any bytes. It takes no memory.
+    // ensures { IsSalvageStart file.now result }
     pub fn begin(alloc: Global, file: &'a [u8]) -> Self {
         match Tiff::read_header(file) {
             Ok(tiff) => Salvage {
                 alloc,
-                file,
                 chain: Some(Chain::new(tiff)),
                 page: None,
                 given: 0,
@@ -128,7 +132,6 @@ impl<'a> Salvage<'a> {
             },
             Err(_fault) => Salvage {
                 alloc,
-                file,
                 chain: None,
                 page: None,
                 given: 0,
@@ -144,12 +147,9 @@ impl<'a> Salvage<'a> {
     /// `Memory` where a growth was refused. Then nothing was handed out, and it may be called
     /// again.
     #[inline(always)]
+    // ensures { IsNextLeft self.old result self.new }
     pub fn next_item(&mut self) -> Result<Option<SalvageItem>, Memory> {
-        fax_bits::laws::bits_stand_by_place();
-        fax_page::laws::lines_are_read_in_one_way();
-        fax_page::laws::strips_are_salvaged_in_one_way();
-        crate::laws::files_are_salvaged_in_one_way();
-        'pages: loop {
+        loop {
             if let Some(item) = item_of_page(&mut self.page) {
                 self.given += 1;
                 return Ok(Some(item));
@@ -183,11 +183,13 @@ impl<'a> Salvage<'a> {
     /// Whether it is seen that nothing of the file is lost, once all was handed out: then its rows
     /// end properly. Before that, whether it is seen so of the pages that were left. `false` says
     /// nothing: what is lost was handed out.
+    // ensures { result ≡ self.now.whole }
     pub fn is_whole(&self) -> bool {
         self.whole
     }
 
     /// The row that was found last, if a row of the page that is gone through was found.
+    // ensures { IsLentLast self.now.last result }
     pub fn row(&self) -> Option<&Row> {
         match &self.page {
             Some(page) => Some(page.row()),

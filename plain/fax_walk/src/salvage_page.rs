@@ -1,3 +1,4 @@
+// Made by tools/plain-rust of crates/fax_walk/src/salvage_page.rt: change that.
 //! What is left of a page: rows, and stretches of rows that are lost.
 
 use crate::Place;
@@ -13,6 +14,7 @@ use kit_std::marker::Model;
 /// The stretch of lost rows that ends before a row of a page, with so many rows more, which are
 /// lost for this cause.
 // requires { Spec.HasRoom lost rows }
+// ensures { result ≡ Spec.longer lost page row rows cause }
 fn longer(lost: Option<Stretch>, page: u32, row: u32, rows: u32, cause: Cause) -> Stretch {
     match lost {
         Some(stretch) => Stretch {
@@ -33,7 +35,6 @@ fn longer(lost: Option<Stretch>, page: u32, row: u32, rows: u32, cause: Cause) -
 /// out, and the row that was found last, as it is handed out.
 pub(crate) struct SalvagePage<'a> {
     page: u32,
-    form: PageForm,
     rows: SalvageRows<'a>,
     /// The row of the page that is due.
     row: u32,
@@ -52,6 +53,7 @@ impl<'a> SalvagePage<'a> {
     // requires form { form_of strips.directory ≡ Ok form }
     // requires limits { IsPageForm form }
     // requires count { strips.count ≡ form.strips }
+    // ensures { IfOk result (Spec.IsPageBegun strips.entry.directory form page) }
     pub fn open(
         alloc: Global,
         page: u32,
@@ -62,7 +64,6 @@ impl<'a> SalvagePage<'a> {
         let rows = SalvageRows::begin(alloc, form, strips)?;
         Ok(SalvagePage {
             page,
-            form,
             rows,
             row: 0,
             lost: None,
@@ -72,6 +73,7 @@ impl<'a> SalvagePage<'a> {
     }
 
     /// Shows the row that was found last as it is handed out.
+    // ensures { Spec.Shows self.old self.new }
     fn show(&mut self) {
         if let Some(row) = &mut self.exchanged {
             set_exchanged(row, self.rows.reference());
@@ -80,6 +82,7 @@ impl<'a> SalvagePage<'a> {
 
     /// The row before the one that is due, as it is handed out.
     // requires { 0 < Spec.row_after self.now }
+    // ensures { result ≡ Spec.item_before self.now }
     fn item(&self) -> SalvageItem {
         SalvageItem::Row(Place {
             page: self.page,
@@ -88,6 +91,7 @@ impl<'a> SalvagePage<'a> {
     }
 
     /// Hands out what is next on the page, or `None` where nothing is left of it.
+    // ensures { Spec.HandsOutOfPage self.old result self.new }
     pub fn next_item(&mut self) -> Option<SalvageItem> {
         if self.waits {
             self.waits = false;
@@ -120,16 +124,19 @@ impl<'a> SalvagePage<'a> {
 
     /// Whether all strips up to the one that is gone through lie wholly in the file, and no row of
     /// them is lost so far.
+    // ensures { result ≡ self.now.rows.clean }
     pub fn is_clean(&self) -> bool {
         self.rows.is_clean()
     }
 
     /// Something is left of the page, or nothing: it computes nothing.
+    // ensures { (items : List LeftItem) × Spec.IsLeftOnPage self.now items }
     pub fn items_are_left(&self) {
         self.rows.rows_are_left();
     }
 
     /// The row that was found last, as it is handed out.
+    // ensures { result.now ≡ self.now.shown }
     pub fn row(&self) -> &Row {
         match &self.exchanged {
             Some(row) => row,

@@ -1,3 +1,4 @@
+// Made by tools/plain-rust of crates/fax_walk/src/salvage_rows.rt: change that.
 //! The rows of a page that are left, strip after strip.
 
 use fax_bits::Memory;
@@ -28,6 +29,9 @@ pub struct PlaceInStrip<'a> {
 
 /// The bytes of strip `s` that lie in the file, and whether these are all of them.
 // requires { s < strips.now.count }
+// ensures bytes { Spec.AreBytesLeft strips.now.directory s result.0.now result.1 }
+// ensures len { length result.0.now ≤ 4294967295 }
+// ensures within { length result.0.now ≤ length strips.now.directory.file }
 fn bytes_left<'a>(strips: &Strips<'a>, s: u32) -> (&'a [u8], bool) {
     match strips.bytes(s) {
         Ok(bytes) => (bytes, true),
@@ -36,6 +40,7 @@ fn bytes_left<'a>(strips: &Strips<'a>, s: u32) -> (&'a [u8], bool) {
 }
 
 /// The cause for which a row of a strip is lost, which lies wholly in the file or does not.
+// ensures { result ≡ Spec.cause_of fault whole }
 fn cause_of(fault: StripFault, whole: bool) -> Cause {
     if whole {
         Cause::Strip(fault)
@@ -46,6 +51,7 @@ fn cause_of(fault: StripFault, whole: bool) -> Cause {
 
 /// What became of the next row of a page, by what became of it in its strip, which lies wholly in
 /// the file or does not.
+// ensures { result ≡ Spec.part_of salvaged whole }
 pub(crate) fn part_of(salvaged: Salvaged, whole: bool) -> PagePart {
     match salvaged {
         Salvaged::Found => PagePart::Found,
@@ -61,6 +67,7 @@ pub(crate) fn part_of(salvaged: Salvaged, whole: bool) -> PagePart {
 }
 
 /// Whether the row is found.
+// ensures { result ≡ Spec.is_found salvaged }
 fn is_found(salvaged: Salvaged) -> bool {
     match salvaged {
         Salvaged::Found => true,
@@ -90,6 +97,7 @@ impl<'a> SalvageRows<'a> {
     // requires form { form_of strips.directory ≡ Ok form }
     // requires limits { IsPageForm form }
     // requires count { strips.count ≡ form.strips }
+    // ensures { IfOk result (Spec.IsBeforeRows strips.entry.directory form) }
     pub fn begin(alloc: Global, form: PageForm, strips: Strips<'a>) -> Result<Self, Memory> {
         let (bytes, whole) = bytes_left(&strips, 0);
         let reader = SalvageReader::new(alloc, bytes, form.strip_form(0))?;
@@ -108,6 +116,10 @@ impl<'a> SalvageRows<'a> {
     // requires limits { IsPageForm form }
     // requires count { strips.count ≡ form.strips }
     // requires due { row < form.rows }
+    // ensures ok { IfOk result
+    //     (Spec.IsBegunAt strips.entry.directory form row bits before.entry) }
+    // ensures err { IfErr result
+    //     (Spec.IsNotBegunAt strips.entry.directory form row bits before.entry) }
     pub fn begin_at(
         alloc: Global,
         form: PageForm,
@@ -116,7 +128,6 @@ impl<'a> SalvageRows<'a> {
         bits: u32,
         before: RowBefore,
     ) -> Result<Self, PlaceFault> {
-        fax_bits::laws::bits_stand_by_place();
         let strip = row / form.rows_per_strip;
         let row_in_strip = row - strip * form.rows_per_strip;
         let strip_form = form.strip_form(strip);
@@ -134,8 +145,8 @@ impl<'a> SalvageRows<'a> {
 
     /// Goes before the first row of the next strip, if there is one, where the one before it is
     /// gone through.
+    // ensures { Spec.EntersStrip self.old self.new }
     fn enter_strip(&mut self) {
-        fax_page::laws::whole_strips_are_found();
         if self.reader.row() < self.form.strip_form(self.strip).rows
             || self.strip + 1 == self.form.strips
         {
@@ -151,9 +162,8 @@ impl<'a> SalvageRows<'a> {
     }
 
     /// What becomes of the row that is due, or `None` after the page's last one.
+    // ensures { Spec.IsPart self.old result self.new }
     pub fn next_part(&mut self) -> Option<PagePart> {
-        fax_page::laws::whole_strips_are_found();
-        fax_page::laws::due_rows_stand_in_strips();
         self.enter_strip();
         let Some(salvaged) = self.reader.next_salvaged() else {
             return None;
@@ -165,8 +175,8 @@ impl<'a> SalvageRows<'a> {
     /// Where the row that is due is read in its strip, or `None` where the strip is gone through:
     /// then the next one begins with that row, if the page has more.
     // requires { length self.now.directory.file ≤ 536870911 }
+    // ensures { Spec.IsPlaceOf self.now result }
     pub fn place(&self) -> Option<PlaceInStrip<'_>> {
-        fax_bits::laws::bits_stand_by_place();
         if self.reader.row() == self.form.strip_form(self.strip).rows {
             return None;
         }
@@ -180,17 +190,20 @@ impl<'a> SalvageRows<'a> {
 
     /// Whether all strips up to the one that is gone through lie wholly in the file, and no row of
     /// them is lost so far.
+    // ensures { result ≡ self.now.clean }
     pub fn is_clean(&self) -> bool {
         self.clean
     }
 
     /// Rows are left of the page, or none: it computes nothing.
+    // ensures { (rows : List PageRow) × Spec.AreRowsLeft self.now rows }
     pub fn rows_are_left(&self) {
-        fax_page::laws::strips_are_salvaged_in_one_way();
         let _row = self.reader.row();
     }
 
     /// The row that was found last, as it is coded.
+    // ensures pels { result.now ≡ self.now.reader.reference }
+    // ensures width { length result.now ≡ self.now.form.width }
     pub fn reference(&self) -> &Row {
         self.reader.reference()
     }

@@ -1,3 +1,4 @@
+// Made by tools/plain-rust of crates/fax_walk/src/sheet.rt: change that.
 //! The size and the resolution of a page that is converted.
 
 use crate::options::Options;
@@ -15,6 +16,8 @@ pub(crate) struct Sheet {
 
 impl Sheet {
     /// The sheet of an image, which has no resolution of its own.
+    // ensures exact { result ≡ Spec.image_sheet image.now.width image.now.rows }
+    // ensures limits { Spec.IsSheet result }
     pub(crate) fn of_image(image: &PbmImage) -> Self {
         Sheet {
             width: image.width,
@@ -27,6 +30,8 @@ impl Sheet {
 
     /// The sheet of a page, which keeps its resolution.
     // requires { IsPageForm form.now }
+    // ensures exact { result ≡ Spec.form_sheet form.now }
+    // ensures limits { Spec.IsSheet result }
     pub(crate) fn of_form(form: &PageForm) -> Self {
         Sheet {
             width: form.width,
@@ -40,6 +45,8 @@ impl Sheet {
     /// The form of the page as it is written.
     // requires limits { Spec.IsSheet self.now }
     // requires has_eols { options.now.aligned ≡ true → coding ≢ Coding.Mmr }
+    // ensures exact { result ≡ Spec.sheet_form options.now coding self.now }
+    // ensures limits { IsPageForm result }
     pub(crate) fn form(&self, options: &Options, coding: Coding) -> PageForm {
         let rows_per_strip = options.strip.unwrap_or(self.rows).min(self.rows);
         PageForm {

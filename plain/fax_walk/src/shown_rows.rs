@@ -1,3 +1,4 @@
+// Made by tools/plain-rust of crates/fax_walk/src/shown_rows.rt: change that.
 //! The rows of a page that are left, as they are handed out.
 
 use crate::open_page::{row_for_exchange, set_exchanged};
@@ -23,6 +24,7 @@ impl<'a> ShownRows<'a> {
     // requires form { form_of strips.directory ≡ Ok form }
     // requires limits { IsPageForm form }
     // requires count { strips.count ≡ form.strips }
+    // ensures { IfOk result (λ s. Left.IsBeforeRows strips.entry.directory form s.rows) }
     pub fn open(alloc: Global, form: PageForm, strips: Strips<'a>) -> Result<Self, Memory> {
         let exchanged = row_for_exchange(alloc, &form)?;
         let rows = SalvageRows::begin(alloc, form, strips)?;
@@ -35,6 +37,10 @@ impl<'a> ShownRows<'a> {
     // requires limits { IsPageForm form }
     // requires count { strips.count ≡ form.strips }
     // requires due { row < form.rows }
+    // ensures ok { IfOk result
+    //     (λ s. Left.IsBegunAt strips.entry.directory form row bits before.entry s.rows) }
+    // ensures err { IfErr result
+    //     (Left.IsNotBegunAt strips.entry.directory form row bits before.entry) }
     pub fn open_at(
         alloc: Global,
         form: PageForm,
@@ -51,6 +57,7 @@ impl<'a> ShownRows<'a> {
     }
 
     /// What becomes of the row that is due, or `None` after the page's last one.
+    // ensures { Spec.IsShownPart self.old result self.new }
     pub fn next_part(&mut self) -> Option<PagePart> {
         let part = self.rows.next_part();
         if let Some(row) = &mut self.exchanged {
@@ -61,11 +68,14 @@ impl<'a> ShownRows<'a> {
 
     /// Where the row that is due is read in its strip, as `SalvageRows::place` has it.
     // requires { length self.now.rows.directory.file ≤ 536870911 }
+    // ensures { Left.IsPlaceOf self.now.rows result }
     pub fn place(&self) -> Option<PlaceInStrip<'_>> {
         self.rows.place()
     }
 
     /// The row that was found last, as it is handed out.
+    // ensures pels { result.now ≡ self.now.shown }
+    // ensures width { length result.now ≡ self.now.rows.form.width }
     pub fn row(&self) -> &Row {
         match &self.exchanged {
             Some(row) => row,
@@ -74,6 +84,7 @@ impl<'a> ShownRows<'a> {
     }
 
     /// Rows are left of the page, or none: it computes nothing.
+    // ensures { (rows : List PageRow) × Left.AreRowsLeft self.now.rows rows }
     pub fn rows_are_left(&self) {
         self.rows.rows_are_left();
     }

@@ -1,3 +1,4 @@
+// Made by tools/plain-rust of crates/fax_walk/src/walk.rt: change that.
 //! The walk over a file's rows, in order of page and then of row.
 
 use crate::open_page::{OpenPage, open, open_after, open_inside};
@@ -51,6 +52,9 @@ pub struct Walk<'a> {
 impl<'a> Model for Walk<'a> {}
 
 /// Opens the page of a cursor's row, or the next one where it stands after a page's last row.
+// ensures opened { IfOk result (Spec.IsOpenedFirst file.now (At cursor)) }
+// ensures refused { IfErr result (IsRefusal (Spec.HasNoRows file.now (At cursor))) }
+// ensures there { result ≡ Err NoMemory → EntersFirst file.now (At cursor) }
 fn open_at<'a>(alloc: Global, file: &'a [u8], cursor: Cursor) -> Result<OpenPage<'a>, OpenFault> {
     let Some(due) = DuePage::at(file, cursor)? else {
         return Err(OpenFault::Ended(End::Proper));
@@ -63,6 +67,9 @@ fn open_at<'a>(alloc: Global, file: &'a [u8], cursor: Cursor) -> Result<OpenPage
 }
 
 /// Opens the page of a long cursor's row, at its place.
+// ensures opened { IfOk result (Spec.IsOpenedFirst file.now (Inside place.now)) }
+// ensures refused { IfErr result (IsRefusal (Spec.HasNoRows file.now (Inside place.now))) }
+// ensures there { result ≡ Err NoMemory → EntersFirst file.now (Inside place.now) }
 fn open_at_place<'a>(
     alloc: Global,
     file: &'a [u8],
@@ -79,6 +86,7 @@ fn open_at_place<'a>(
 #[cold]
 #[inline(never)]
 // requires { Spec.IsReadOrNone page.old }
+// ensures { Spec.IsEntered file.now begun.now page.old result page.new }
 fn open_due<'a>(
     alloc: Global,
     file: &'a [u8],
@@ -98,6 +106,7 @@ fn open_due<'a>(
 /// opened.
 #[inline(always)]
 // requires { Spec.IsOpenOrNone page.old }
+// ensures { Spec.IsReadNext file.now begun.now page.old result page.new }
 fn go_on<'a>(
     alloc: Global,
     file: &'a [u8],
@@ -107,11 +116,7 @@ fn go_on<'a>(
     // The next page is opened beside the one that is read to its end, and takes its place when it
     // is open: where memory is refused the walk is as it was. After the last row the page stays for
     // its long cursor alone.
-    fax_bits::laws::bits_stand_by_place();
-    fax_page::laws::lines_are_read_in_one_way();
-    fax_files::laws::files_have_one_chain();
-    fax_files::laws::forms_are_whole();
-    'pages: loop {
+    loop {
         if let Some(open) = page {
             if open.next_row()? {
                 return Ok(());
@@ -123,6 +128,7 @@ fn go_on<'a>(
 
 impl<'a> Walk<'a> {
     /// A walk over all rows of a file, from any bytes. Nothing is read yet.
+    // ensures { result ≡ walk_start file.now }
     pub fn start(alloc: Global, file: &'a [u8]) -> Self {
         Walk::resume(alloc, file, Cursor { page: 0, row: 0 })
     }
@@ -130,6 +136,7 @@ impl<'a> Walk<'a> {
     /// A walk over the rows of a file from what it begins with on. Nothing is read yet. Then the
     /// page that it names is read: after a cursor from the strip on that holds its row, after a
     /// long cursor from its place inside the strip on, and no row before that.
+    // ensures { result ≡ walk_from file.now begun }
     pub fn begin(alloc: Global, file: &'a [u8], begun: Begun) -> Self {
         let cursor = begun.cursor();
         Walk {
@@ -144,16 +151,19 @@ impl<'a> Walk<'a> {
     }
 
     /// A walk that begins with a cursor.
+    // ensures { result ≡ walk_from file.now (At cursor) }
     pub fn resume(alloc: Global, file: &'a [u8], cursor: Cursor) -> Self {
         Walk::begin(alloc, file, Begun::At(cursor))
     }
 
     /// A walk that begins with a long cursor.
+    // ensures { result ≡ walk_from file.now (Inside cursor) }
     pub fn resume_long(alloc: Global, file: &'a [u8], cursor: LongCursor) -> Self {
         Walk::begin(alloc, file, Begun::Inside(cursor))
     }
 
     /// The cursor after the last row that was handed out, or the one that the walk began with.
+    // ensures { IsCursorOf self.now result }
     pub fn cursor(&self) -> Cursor {
         self.cursor
     }
@@ -165,6 +175,7 @@ impl<'a> Walk<'a> {
     /// # Errors
     ///
     /// `Memory` where a growth was refused.
+    // ensures { IfOk result (IsLongOf self.now) }
     pub fn long_cursor(&self, alloc: Global) -> Result<Option<LongCursor>, Memory> {
         match &self.page {
             Some(page) if self.given > 0 => page.long_cursor(alloc),
@@ -174,6 +185,8 @@ impl<'a> Walk<'a> {
 
     /// The place inside a strip after the last row that was handed out, as `long_cursor` has it
     /// once a row was handed out, and `None` before that. It takes no memory.
+    // ensures place { 0 < self.now.given → IsLongOf self.now (place_inside result) }
+    // ensures none { self.now.given ≡ 0 → result ≡ None }
     pub fn lend_place(&self) -> Option<PlaceInside<'_>> {
         match &self.page {
             Some(page) if self.given > 0 => page.lend_place(),
@@ -184,6 +197,7 @@ impl<'a> Walk<'a> {
     /// The row that was handed out last, if one was.
     #[inline(always)]
     // requires { self.now.told ≡ None }
+    // ensures { Spec.IsLastOf self.now result }
     pub(crate) fn last_row(&self) -> Option<LastRow<'_>> {
         match &self.page {
             Some(page) => Some(LastRow {
@@ -200,18 +214,12 @@ impl<'a> Walk<'a> {
 
     /// How many rows this walk has read: those that it handed out, and those that stand before the
     /// first of them in its strip.
+    // ensures { AreRead self.now result }
     pub fn rows_read(&self) -> u64 {
-        crate::laws::beginnings_have_one_tail();
         match &self.page {
             Some(page) => page.rows_read(),
             None => 0,
         }
-    }
-
-    /// Rows are left, and an end. It computes nothing.
-    pub(crate) fn items_are_left(&self) {
-        crate::laws::beginnings_have_one_tail();
-        let _ = &self.page;
     }
 
     /// Goes to the next row, and answers whether there was one. It takes memory only where it
@@ -221,6 +229,7 @@ impl<'a> Walk<'a> {
     ///
     /// As `next_row`.
     #[inline(always)]
+    // ensures { Spec.IsAdvance self.old result self.new }
     fn go_to_next(&mut self) -> Result<bool, WalkFault> {
         if let Some(end) = self.told {
             return end.answer();
@@ -250,6 +259,7 @@ impl<'a> Walk<'a> {
     /// `Memory` where a growth was refused: the walk is as it was. `AtRow` at the fault that ends
     /// the rows, `CursorOutside` where the walk began at no place of the file, from then on.
     #[inline(always)]
+    // ensures* next { sem 𝓛 (WalkEndsAs self.entry (IsNext self.old result)) }
     pub fn next_row(&mut self) -> Result<Option<(Place, &Row)>, WalkFault> {
         if !self.go_to_next()? {
             return Ok(None);

@@ -1,3 +1,4 @@
+// Made by tools/plain-rust of tools/plain/kit_clap/src/lib.rs: change that.
 //! The calls of clap that `faxpages` makes as the Rattle kit has them, over clap 4.
 //!
 //! The kit's clap answers an error where memory is refused. Clap 4 has no way to: from the first

@@ -1,3 +1,4 @@
+// Made by tools/plain-rust of tools/plain/kit_std/src/alloc.rs: change that.
 //! Vectors and texts whose growth may be refused.
 
 use std::fmt;

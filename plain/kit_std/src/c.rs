@@ -1,3 +1,4 @@
+// Made by tools/plain-rust of tools/plain/kit_std/src/c.rs: change that.
 //! Memory of a caller in C as slices. Where a length is 0 the pointer may be null.
 
 use std::slice;

@@ -1,3 +1,4 @@
+// Made by tools/plain-rust of tools/plain/kit_std/src/env.rs: change that.
 //! What a process was started with.
 
 use crate::alloc::String;

@@ -1,3 +1,4 @@
+// Made by tools/plain-rust of tools/plain/kit_std/src/fs.rs: change that.
 //! Files by name.
 
 use crate::io;

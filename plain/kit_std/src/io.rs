@@ -1,3 +1,4 @@
+// Made by tools/plain-rust of tools/plain/kit_std/src/io.rs: change that.
 //! Reading and writing.
 
 pub use crate::streams::Stream;

@@ -1,3 +1,4 @@
+// Made by tools/plain-rust of tools/plain/kit_std/src/iter.rs: change that.
 //! Iterators.
 
 use crate::alloc::{AllocError, Global, Vec};

@@ -1,3 +1,4 @@
+// Made by tools/plain-rust of tools/plain/kit_std/src/lanes.rs: change that.
 //! Lanes of numbers as arrays, of which the compiler makes vectors where the target has some. With the
 //! feature `sse2` tests, sums, differences and wider numbers are SSE2's own on x86-64: of the arrays
 //! the compiler makes many more instructions.

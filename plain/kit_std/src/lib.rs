@@ -1,3 +1,4 @@
+// Made by tools/plain-rust of tools/plain/kit_std/src/lib.rs: change that.
 //! What `faxpages` names of the Rattle kit's std, over Rust's own.
 //!
 //! Growth of memory answers an error where it is refused. What the kit proves of a call's arguments

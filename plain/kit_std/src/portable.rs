@@ -1,3 +1,4 @@
+// Made by tools/plain-rust of tools/plain/kit_std/src/portable.rs: change that.
 //! Operations on lanes as any machine has them.
 
 use std::array;

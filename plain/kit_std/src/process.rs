@@ -1,3 +1,4 @@
+// Made by tools/plain-rust of tools/plain/kit_std/src/process.rs: change that.
 //! How a process ends.
 
 /// The status of a program.

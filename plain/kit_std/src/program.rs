@@ -1,3 +1,4 @@
+// Made by tools/plain-rust of tools/plain/kit_std/src/program.rs: change that.
 //! How a program begins: by C's `main`. Before Rust's own the three streams are opened where they
 //! were closed, on /dev/null, and what is written there is lost without an error.
 

@@ -1,3 +1,4 @@
+// Made by tools/plain-rust of tools/plain/kit_std/src/refusing.rs: change that.
 //! The allocator of the program. Crates that are not ours, clap above all, take memory that they
 //! think they always get, and Rust ends the process with SIGABRT where it is refused. While such a
 //! crate works the program ends here instead, as it does for any other want of memory.

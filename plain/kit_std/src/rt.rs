@@ -1,3 +1,4 @@
+// Made by tools/plain-rust of tools/plain/kit_std/src/rt.rs: change that.
 //! What the kit hands to `main`.
 
 use crate::alloc::{Global, String, Vec};

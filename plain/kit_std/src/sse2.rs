@@ -1,3 +1,4 @@
+// Made by tools/plain-rust of tools/plain/kit_std/src/sse2.rs: change that.
 //! Operations on lanes by SSE2, which each x86-64 has.
 
 use std::arch::x86_64::*;

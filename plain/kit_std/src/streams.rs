@@ -1,3 +1,4 @@
+// Made by tools/plain-rust of tools/plain/kit_std/src/streams.rs: change that.
 //! The three streams of a process. What is written is handed to the system before the call returns:
 //! Rust's own standard output has a buffer, and takes a closed stream for one that takes all.
 

@@ -1,3 +1,4 @@
+// Made by tools/plain-rust of crates/fax_c/src: change that.
 //! The calls from C, whose pointers and lengths become slices.
 #![allow(unsafe_code)]
 

@@ -1,3 +1,4 @@
+// Made by tools/plain-rust of crates/fax_rows/src/two_dimensional/copied.rt: change that.
 //! Steps of two-dimensional coding with a1 under b1, of which several are read at once: their
 //! places are copied from the reference row (ITU-T T.4, section 4.2.1.3.2).
 
@@ -19,6 +20,10 @@ const LEAST_MORE: u32 = 3;
 #[inline(always)]
 // requires room { end + COPIED ≤ length places.old }
 // requires others { from + COPIED ≤ length other.now }
+// ensures copied { (i : ℕ) → i < COPIED
+//     → slice_index places.new (end + i) ≡ slice_index other.now (from + i) }
+// ensures kept { take end places.new ≡ take end places.old }
+// ensures same_len { length places.new ≡ length places.old }
 fn copy_eight(places: &mut [u32], end: usize, other: &[u32], from: usize) {
     places[end..end + COPIED].copy_from_slice(&other[from..from + COPIED]);
 }
@@ -27,6 +32,10 @@ fn copy_eight(places: &mut [u32], end: usize, other: &[u32], from: usize) {
 /// that are next, where the row does not end among the next eight changes.
 #[inline(always)]
 // requires inside { IsReadInside reference places.old at }
+// ensures read { (b : List Bool) → Takes modes b (Vertical (pos 0)) source.old.left
+//     → IsReadOn true reference.entry places.old places.new at result b source.new.left }
+// ensures same_end { KeepsEnd source.old source.new }
+// ensures no_longer { length source.new.left ≤ length source.old.left }
 pub(super) fn under_several(
     source: &mut BitSource,
     reference: PlacedRow,
@@ -36,7 +45,6 @@ pub(super) fn under_several(
     // Eight places are copied from the reference row, of which as many count as codes are read: so
     // both rows have room for eight after their last place, or the steps are read one by one. On a
     // page of text three of five modes are so.
-    fax_bits::laws::modes_are_read_back();
     if source.ones() < LEAST_MORE
         || at.b1 + COPIED > reference.end
         || at.end + COPIED > places.len()

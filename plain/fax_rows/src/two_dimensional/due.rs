@@ -1,3 +1,4 @@
+// Made by tools/plain-rust of crates/fax_rows/src/two_dimensional/due.rt: change that.
 //! A row in two-dimensional coding, read on from where no look-up finds the next code (ITU-T T.4,
 //! section 4.2.1.3.2).
 
@@ -26,6 +27,9 @@ pub(super) struct Pause {
 
 impl Pause {
     /// How far the row is read.
+    // ensures { (at : PlacedReached) → self.a0 ≡ Spec.a0_number (position_of at.reached [])
+    //     → self.end ≡ at.end → self.b1 ≡ at.b1 → alternate Black at.b1 ≡ at.reached.colour
+    //     → result ≡ at }
     fn reached(self) -> PlacedReached {
         let a0 = if self.a0 < 0 {
             None
@@ -44,6 +48,10 @@ impl Pause {
 }
 
 /// Reads a mode by a look-up, or else by its table.
+// ensures ok { IfOk result (λ mode. Takes modes source.old.left mode source.new.left) }
+// ensures err { IfErr result (λ fault. IsFaultOf modes source.old.left fault) }
+// ensures same_end { KeepsEnd source.old source.new }
+// ensures shorter { OnOk result (length source.new.left < length source.old.left) }
 fn last_mode(source: &mut BitSource) -> Result<ModeCode, CodeFault> {
     if let Some(mode) = source.mode::<false>() {
         return Ok(mode);
@@ -55,6 +63,15 @@ fn last_mode(source: &mut BitSource) -> Result<ModeCode, CodeFault> {
 /// second.
 // requires inside { IsReadInside reference places.old at }
 // requires fits { IfSome first (λ n. reached_pel at.reached + n ≤ reference.width) }
+// ensures read { (b : List Bool) → AreRunsDue at.reached.colour b first source.old.left
+//     → IfOk result (λ next. IsPairReadOn CHOICE reference.entry places.old places.new at next
+//     b source.new.left) }
+// ensures err { (b : List Bool) → AreRunsDue at.reached.colour b first source.old.left
+//     → IfErr result (λ stop. IsStopOf CHOICE (λ fault. IsHorizontalFault
+//     (placed_pels reference.entry) (placed_position reference.entry.width places.old at) b fault) stop) }
+// ensures room { HasRoom reference.entry.width places.new }
+// ensures same_end { KeepsEnd source.old source.new }
+// ensures shorter { OnOk result (length source.new.left < length source.old.left) }
 fn last_horizontal<const CHOICE: bool>(
     source: &mut BitSource,
     reference: PlacedRow,
@@ -71,6 +88,14 @@ fn last_horizontal<const CHOICE: bool>(
 /// Reads what is due, and goes on by it.
 // requires inside { IsReadInside reference places.old at }
 // requires within { IsDueWithin reference.width (reached_pel at.reached) due }
+// ensures read { (b : List Bool) → IsDue at.reached.colour b due source.old.left
+//     → IfOk result (λ next. IsReadOn CHOICE reference.entry places.old places.new at next
+//     b source.new.left) }
+// ensures stop { (b : List Bool) → IsDue at.reached.colour b due source.old.left
+//     → IfErr result (λ stop. IsStepStop CHOICE reference.entry places.old at b stop) }
+// ensures room { HasRoom reference.entry.width places.new }
+// ensures same_end { KeepsEnd source.old source.new }
+// ensures shorter { OnOk result (length source.new.left < length source.old.left) }
 fn read_due<const CHOICE: bool>(
     source: &mut BitSource,
     reference: PlacedRow,
@@ -98,6 +123,13 @@ fn read_due<const CHOICE: bool>(
 #[cold]
 #[inline(never)]
 // requires pause { IsPause CHOICE reference source.old places.old pause }
+// ensures read { IfOk result (λ end. IsReadRow CHOICE reference.entry source.old.left places.new
+//     end source.new.left) }
+// ensures stop { IfErr result
+//     (λ stop. IsRowStop CHOICE reference.entry source.old.left stop) }
+// ensures unchanged { OnErr result (source.new ≡ source.old) }
+// ensures room { HasRoom reference.entry.width places.new }
+// ensures same_end { KeepsEnd source.old source.new }
 pub(super) fn read_on<const CHOICE: bool>(
     source: &mut BitSource,
     reference: PlacedRow,

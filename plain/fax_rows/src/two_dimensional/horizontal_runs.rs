@@ -1,3 +1,4 @@
+// Made by tools/plain-rust of crates/fax_rows/src/two_dimensional/horizontal_runs.rt: change that.
 //! The next codes of a row in two-dimensional coding: by look-ups, or else by their tables (ITU-T
 //! T.4, section 4.2.1.3.2).
 
@@ -57,6 +58,13 @@ pub(super) struct TwoRuns {
 /// the copies of several callers: each is written out in its one caller.
 #[inline(always)]
 // requires from { from ≤ width }
+// ensures read { IfOk result
+//     (λ runs. AreReadRuns true colour width from source.old.left runs source.new.left) }
+// ensures due { IfErr result
+//     (λ first. AreRunsDue colour source.old.left first source.new.left) }
+// ensures fits { IfErr result (λ first. IfSome first (λ n. from + n ≤ width)) }
+// ensures same_end { KeepsEnd source.old source.new }
+// ensures no_longer { length source.new.left ≤ length source.old.left }
 pub(super) fn run_by_run<const CHOICE: bool, const SEVERAL: bool>(
     source: &mut BitSource,
     colour: Colour,
@@ -76,6 +84,13 @@ pub(super) fn run_by_run<const CHOICE: bool, const SEVERAL: bool>(
 #[inline(always)]
 // requires width { width < 2 ^ 16 }
 // requires from { from ≤ width }
+// ensures read { IfOk result
+//     (λ runs. AreReadRuns true colour width from source.old.left runs source.new.left) }
+// ensures due { IfErr result
+//     (λ first. AreRunsDue colour source.old.left first source.new.left) }
+// ensures fits { IfErr result (λ first. IfSome first (λ n. from + n ≤ width)) }
+// ensures same_end { KeepsEnd source.old source.new }
+// ensures no_longer { length source.new.left ≤ length source.old.left }
 pub(super) fn two_runs<const CHOICE: bool, const SEVERAL: bool>(
     source: &mut BitSource,
     colour: Colour,
@@ -100,6 +115,14 @@ pub(super) fn two_runs<const CHOICE: bool, const SEVERAL: bool>(
 // requires width { width < 2 ^ 16 }
 // requires from { from ≤ width }
 // requires fits { IfSome first (λ n. from + n ≤ width) }
+// ensures read { (b : List Bool) → AreRunsDue colour b first source.old.left
+//     → IfOk result (λ runs. AreReadRuns CHOICE colour width from b runs source.new.left) }
+// ensures within { IfOk result (λ runs. from + runs.first + runs.second ≤ width) }
+// ensures stop { (b : List Bool) → AreRunsDue colour b first source.old.left
+//     → IfErr result
+//     (λ stop. IsStopOf CHOICE (λ fault. IsPairFault colour width from b fault) stop) }
+// ensures same_end { KeepsEnd source.old source.new }
+// ensures shorter { OnOk result (length source.new.left < length source.old.left) }
 pub(super) fn last_two_runs<const CHOICE: bool>(
     source: &mut BitSource,
     colour: Colour,

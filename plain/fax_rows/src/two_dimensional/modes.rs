@@ -1,3 +1,4 @@
+// Made by tools/plain-rust of crates/fax_rows/src/two_dimensional/modes.rt: change that.
 //! The modes of a row in two-dimensional coding, read over its reference row (ITU-T T.4, section
 //! 4.2.1.3.3). The bits ahead stand in a value.
 
@@ -17,6 +18,12 @@ use fax_bits::{BitSource, ModeCode};
 #[inline(always)]
 // requires inside { IsReadInside reference places.old at }
 // requires within { reached_pel at.reached + runs.first + runs.second ≤ reference.width }
+// ensures read { (b rest : List Bool)
+//     → AreReadRuns CHOICE at.reached.colour reference.entry.width (reached_pel at.reached) b runs rest
+//     → IfOk result (λ next. IsPairReadOn CHOICE reference.entry places.old places.new at next
+//     b rest) }
+// ensures err { IfErr result (λ stop. IsStopOf CHOICE (λ fault. ⊥) stop) }
+// ensures room { HasRoom reference.entry.width places.new }
 pub(super) fn past_runs<const CHOICE: bool>(
     reference: PlacedRow,
     places: &mut [u32],
@@ -34,6 +41,14 @@ pub(super) fn past_runs<const CHOICE: bool>(
 /// 4.2.1.3.2). The index of b1 tells that colour.
 #[inline(always)]
 // requires inside { IsReadInside reference places.old at }
+// ensures read { IfOk result (λ next. IsPairReadOn CHOICE reference.entry places.old places.new
+//     at next source.old.left source.new.left) }
+// ensures err { IfErr result (λ unread. IsUnreadFor (IsStopOf CHOICE (λ fault. ⊥))
+//     (λ first. AreRunsDueAt reference.entry places.old places.new at source.old.left first
+//     source.new.left) unread) }
+// ensures room { HasRoom reference.entry.width places.new }
+// ensures same_end { KeepsEnd source.old source.new }
+// ensures no_longer { OnOk result (length source.new.left ≤ length source.old.left) }
 fn horizontal<const CHOICE: bool, const SEVERAL: bool>(
     source: &mut BitSource,
     reference: PlacedRow,
@@ -54,6 +69,15 @@ fn horizontal<const CHOICE: bool, const SEVERAL: bool>(
 /// mode always is T.4's choice where a1 is not right of b1 (T.4, section 4.2.1.3.3).
 #[inline(always)]
 // requires inside { IsReadInside reference places.old at }
+// ensures read { (b : List Bool) → Takes modes b (Vertical d) source.old.left
+//     → IfOk result (λ next. IsReadOn CHOICE reference.entry places.old places.new at next
+//     b source.new.left) }
+// ensures err { IfErr result (λ stop. IsStopOf CHOICE
+//     (λ fault. (Spec.IsInRow (placed_pels reference.entry)
+//     (placed_position reference.entry.width places.old at) d → ⊥) × (fault ≡ OutOfRow)) stop) }
+// ensures room { OnErr result (HasRoom reference.entry.width places.new) }
+// ensures same_end { KeepsEnd source.old source.new }
+// ensures no_longer { OnOk result (length source.new.left ≤ length source.old.left) }
 fn vertical<const CHOICE: bool>(
     source: &mut BitSource,
     reference: PlacedRow,
@@ -81,6 +105,13 @@ fn vertical<const CHOICE: bool>(
 /// Pass mode, where that is T.4's choice or this is not asked for (T.4, section 4.2.1.3.3).
 #[inline(always)]
 // requires inside { IsReadInside reference places.now at }
+// ensures ok { let from = placed_position reference.entry.width places.now at in
+//     IfOk result (λ next. placed_position reference.entry.width places.now next
+//     ≡ Spec.coloured_up_to from (b2_from (placed_pels reference.entry) from)) }
+// ensures so_far { IfOk result (λ next. IsReadTo reference.entry places.now next) }
+// ensures inside { IfOk result (λ next. IsTrue CHOICE
+//     → reached_pel next.reached < reference.entry.width) }
+// ensures err { IfErr result (λ stop. IsStopOf CHOICE (λ fault. ⊥) stop) }
 pub(super) fn pass<const CHOICE: bool>(
     reference: PlacedRow,
     places: &[u32],
@@ -100,6 +131,16 @@ pub(super) fn pass<const CHOICE: bool>(
 /// callers.
 #[inline(always)]
 // requires inside { IsReadInside reference places.old at }
+// ensures read { (b : List Bool) → Takes modes b mode source.old.left
+//     → IfOk result (λ next. IsReadOn CHOICE reference.entry places.old places.new at next
+//     b source.new.left) }
+// ensures stop { (b : List Bool) → Takes modes b mode source.old.left
+//     → IfErr result (λ unread. IsUnreadFor (IsStepStop CHOICE reference.entry places.old at b)
+//     (λ first. (places.new ≡ places.old)
+//     × IsDueAt reference.entry places.old at b (Runs first) source.new.left) unread) }
+// ensures room { OnErr result (HasRoom reference.entry.width places.new) }
+// ensures same_end { KeepsEnd source.old source.new }
+// ensures no_longer { OnOk result (length source.new.left ≤ length source.old.left) }
 pub(super) fn by_mode<const CHOICE: bool, const SEVERAL: bool>(
     source: &mut BitSource,
     reference: PlacedRow,
@@ -120,6 +161,15 @@ pub(super) fn by_mode<const CHOICE: bool, const SEVERAL: bool>(
 /// look-up where it can.
 #[inline(always)]
 // requires inside { IsReadInside reference places.old at }
+// ensures read { IfOk result (λ next. IsReadOn CHOICE reference.entry places.old places.new
+//     at next source.old.left source.new.left) }
+// ensures stop { IfErr result (λ unread. IsUnreadFor
+//     (IsStepStop CHOICE reference.entry places.old at source.old.left)
+//     (λ due. (places.new ≡ places.old)
+//     × IsDueAt reference.entry places.old at source.old.left due source.new.left) unread) }
+// ensures room { HasRoom reference.entry.width places.new }
+// ensures same_end { KeepsEnd source.old source.new }
+// ensures shorter { OnOk result (length source.new.left < length source.old.left) }
 fn next_steps<const CHOICE: bool, const SEVERAL: bool>(
     source: &mut BitSource,
     reference: PlacedRow,
@@ -149,6 +199,14 @@ fn next_steps<const CHOICE: bool, const SEVERAL: bool>(
 /// seen to be T.4's choice. Where it stops the source is as it was.
 #[inline(never)]
 // requires room { HasRoom reference.width places.old }
+// ensures read { IfOk result (λ end. IsReadRow CHOICE reference.entry source.old.left places.new
+//     end source.new.left) }
+// ensures stop { IfErr result (λ unread. IsUnreadFor
+//     (IsRowStop CHOICE reference.entry source.old.left)
+//     (λ pause. IsPause CHOICE reference.entry source.old places.new pause) unread) }
+// ensures unchanged { OnErr result (source.new ≡ source.old) }
+// ensures room { HasRoom reference.entry.width places.new }
+// ensures same_end { KeepsEnd source.old source.new }
 pub(super) fn read_by_look_ups<const CHOICE: bool, const SEVERAL: bool>(
     source: &mut BitSource,
     reference: PlacedRow,

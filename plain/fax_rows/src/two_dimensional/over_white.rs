@@ -1,3 +1,4 @@
+// Made by tools/plain-rust of crates/fax_rows/src/two_dimensional/over_white.rt: change that.
 //! Rows in two-dimensional coding over a white reference row: horizontal modes from the first pel
 //! on, and a1 under the row's end (ITU-T T.4, section 4.2.1.3.3).
 
@@ -27,6 +28,7 @@ impl ReachedOverWhite {
 
     /// The same, as over any reference row.
     #[inline(always)]
+    // ensures { result ≡ placed_over_white self }
     fn placed(self) -> PlacedReached {
         let a0 = if self.first_pel == 0 {
             None
@@ -46,6 +48,11 @@ impl ReachedOverWhite {
     /// A pause where no look-up finds the next step, at this place in the bits of the source.
     #[inline(always)]
     // requires { self.first_pel < 2 ^ 16 }
+    // ensures due { result.due ≡ Mode }
+    // ensures place { result.place ≡ place }
+    // ensures a0 { result.a0 ≡ a0_number (position_of (placed_over_white self).reached []) }
+    // ensures end { result.end ≡ self.end }
+    // ensures b1 { result.b1 ≡ 1 }
     fn pause(self, place: u64) -> Pause {
         Pause {
             due: Due::Mode,
@@ -71,6 +78,11 @@ enum StepOverWhite {
 /// as it was.
 #[inline(always)]
 // requires within { first_pel ≤ width }
+// ensures step { IfSome result
+//     (λ step. IsStepOverWhite width first_pel source.old.left step source.new.left) }
+// ensures unchanged { result ≡ None → source.new ≡ source.old }
+// ensures same_end { KeepsEnd source.old source.new }
+// ensures shorter { IsSome result → length source.new.left < length source.old.left }
 fn by_codes<const CHOICE: bool>(
     source: &mut BitSource,
     first_pel: u32,
@@ -99,6 +111,11 @@ fn by_codes<const CHOICE: bool>(
 #[inline(always)]
 // requires width { width < 2 ^ 16 }
 // requires within { first_pel ≤ width }
+// ensures step { IfSome result
+//     (λ step. IsStepOverWhite width first_pel source.old.left step source.new.left) }
+// ensures unchanged { result ≡ None → source.new ≡ source.old }
+// ensures same_end { KeepsEnd source.old source.new }
+// ensures shorter { IsSome result → length source.new.left < length source.old.left }
 fn next_step<const CHOICE: bool>(
     source: &mut BitSource,
     first_pel: u32,
@@ -120,6 +137,12 @@ fn next_step<const CHOICE: bool>(
 // requires inside { IsReadInside reference places.old (placed_over_white at) }
 // requires within { at.first_pel + runs.first + runs.second ≤ reference.width }
 // requires pels { HavePels at.first_pel runs }
+// ensures read { (b rest : List Bool)
+//     → AreReadRuns true White reference.entry.width at.first_pel b runs rest
+//     → IfSome result (λ next. IsPairReadOn CHOICE reference.entry places.old places.new
+//     (placed_over_white at) (placed_over_white next) b rest) }
+// ensures asked { result ≡ None → IsTrue CHOICE }
+// ensures room { HasRoom reference.entry.width places.new }
 fn past_two_runs<const CHOICE: bool>(
     reference: PlacedRow,
     places: &mut [u32],
@@ -142,6 +165,14 @@ fn past_two_runs<const CHOICE: bool>(
 #[inline(never)]
 // requires room { HasRoom reference.width places.old }
 // requires white { reference.end ≡ 1 }
+// ensures read { IfOk result (λ end. IsReadRow CHOICE reference.entry source.old.left places.new
+//     end source.new.left) }
+// ensures stop { IfErr result (λ unread. IsUnreadFor
+//     (IsRowStop CHOICE reference.entry source.old.left)
+//     (λ pause. IsPause CHOICE reference.entry source.old places.new pause) unread) }
+// ensures unchanged { OnErr result (source.new ≡ source.old) }
+// ensures room { HasRoom reference.entry.width places.new }
+// ensures same_end { KeepsEnd source.old source.new }
 pub(super) fn read_over_white<const CHOICE: bool>(
     source: &mut BitSource,
     reference: PlacedRow,

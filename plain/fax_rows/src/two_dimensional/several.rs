@@ -1,3 +1,4 @@
+// Made by tools/plain-rust of crates/fax_rows/src/two_dimensional/several.rt: change that.
 //! Steps in vertical mode, of which up to four are read at once: their a1s are computed in lanes
 //! (ITU-T T.4, section 4.2.1.3.2).
 
@@ -20,6 +21,7 @@ const LEFT: u32 = 3;
 #[inline(always)]
 // requires lanes { AreFour lanes }
 // requires others { AreFour others }
+// ensures { result ≡ mask_l (zip2 nat_lt lanes others) }
 fn less_lanes(lanes: u32x4, others: u32x4) -> u64 {
     // With a sign, which takes fewer instructions.
     lanes
@@ -31,6 +33,9 @@ fn less_lanes(lanes: u32x4, others: u32x4) -> u64 {
 /// Whether the lowest `count` bits are set in each of the three.
 #[inline(always)]
 // requires { count ≤ 4 }
+// ensures first { IsTrue result → (i : ℕ) → i < count → bit_at first i ≡ 1 }
+// ensures second { IsTrue result → (i : ℕ) → i < count → bit_at second i ≡ 1 }
+// ensures third { IsTrue result → (i : ℕ) → i < count → bit_at third i ≡ 1 }
 fn are_set(first: u64, second: u64, third: u64, count: u32) -> bool {
     let wanted = (1 << count) - 1;
     first & second & third & wanted == wanted
@@ -39,6 +44,8 @@ fn are_set(first: u64, second: u64, third: u64, count: u32) -> bool {
 /// Three pels right of a0, or 2 just before the first pel.
 #[inline(always)]
 // requires { unwrap_or a0 0 < 2 ^ 16 }
+// ensures right { (place : ℕ) → result < place + 3 → is_right_of a0 place ≡ true }
+// ensures small { result < 2 ^ 17 }
 fn raised_a0(a0: Option<u32>) -> u32 {
     match a0 {
         None => 2,
@@ -55,6 +62,17 @@ fn raised_a0(a0: Option<u32>) -> u32 {
 // requires small { (i : ℕ) → i < 6 → slice_index others.now (b - 1 + i) < 2 ^ 16 }
 // requires reached { unwrap_or a0 0 < 2 ^ 16 }
 // requires few { AreFew found }
+// ensures lanes { IfSome result (λ places. length places ≡ 4) }
+// ensures raised { IfSome result (λ places. (i : ℕ) → i < found.count
+//     → slice_index places i + 3
+//     ≡ slice_index others.now (b + i) + slice_index found.raises i) }
+// ensures left { IfSome result (λ places. (i : ℕ) → i < found.count
+//     → slice_index others.now (b - 1 + i) ≤ slice_index places i) }
+// ensures right { IfSome result (λ places. (i : ℕ) → i < found.count
+//     → slice_index places i < slice_index others.now (b + 1 + i)) }
+// ensures first { IfSome result (λ places. is_right_of a0 (slice_index places 0) ≡ true) }
+// ensures ascending { IfSome result (λ places. (i : ℕ) → i + 1 < found.count
+//     → slice_index places i < slice_index places (i + 1)) }
 fn in_lanes(others: &[u32], b: usize, a0: Option<u32>, found: Verticals) -> Option<[u32; LANES]> {
     // Each three pels too far right, as the looked-up numbers are.
     let raises = u8x4::from_array(found.raises);
@@ -78,6 +96,10 @@ fn in_lanes(others: &[u32], b: usize, a0: Option<u32>, found: Verticals) -> Opti
 #[inline(always)]
 // requires room { end + LANES ≤ length places.old }
 // requires lanes { length four ≡ 4 }
+// ensures put { (i : ℕ) → i < LANES
+//     → slice_index places.new (end + i) ≡ slice_index four i }
+// ensures kept { take end places.new ≡ take end places.old }
+// ensures same_len { length places.new ≡ length places.old }
 fn put_four(places: &mut [u32], end: usize, four: [u32; LANES]) {
     places[end..end + LANES].copy_from_slice(&four);
 }
@@ -87,6 +109,12 @@ fn put_four(places: &mut [u32], end: usize, four: [u32; LANES]) {
 /// the change before its b1, and left of the one after it. Else it reads nothing.
 #[inline(always)]
 // requires inside { IsReadInside reference places.old at }
+// ensures read { IfSome result (λ next. IsReadOn true reference.entry places.old places.new
+//     at next source.old.left source.new.left) }
+// ensures unchanged { result ≡ None → source.new ≡ source.old }
+// ensures places { result ≡ None → places.new ≡ places.old }
+// ensures same_end { KeepsEnd source.old source.new }
+// ensures shorter { IsSome result → length source.new.left < length source.old.left }
 pub(super) fn several<const ASKED: bool>(
     source: &mut BitSource,
     reference: PlacedRow,

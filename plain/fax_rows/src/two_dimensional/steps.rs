@@ -1,3 +1,4 @@
+// Made by tools/plain-rust of crates/fax_rows/src/two_dimensional/steps.rt: change that.
 //! Steps of two-dimensional coding over a reference row, after their codes (ITU-T T.4, section
 //! 4.2.1.3.2).
 
@@ -17,6 +18,7 @@ pub(crate) struct Reached {
 
 impl Reached {
     /// The first pel that is not read.
+    // ensures { result ≡ reached_pel self }
     pub fn first_pel(self) -> u32 {
         self.a0.unwrap_or(0)
     }
@@ -24,6 +26,7 @@ impl Reached {
     /// a0 as a number: -1 just before the first pel.
     #[inline(always)]
     // requires { reached_pel self < 2 ^ 16 }
+    // ensures { result ≡ Spec.a0_number (position_of self []) }
     pub fn number(self) -> i32 {
         // With a sign one compare says that a1 is right of a0, and where it is left of b1 that it
         // is in the row too. Nothing else in the loop asks whether there is an a0.
@@ -37,6 +40,7 @@ impl Reached {
     #[inline(always)]
     // requires reached { reached_pel self < 2 ^ 16 }
     // requires near { a1 < 2 ^ 16 }
+    // ensures { IsTrue result → Spec.is_right_of self.a0 a1 ≡ true }
     pub fn is_left_of(self, a1: u32) -> bool {
         a1 as i32 > self.number()
     }
@@ -45,6 +49,11 @@ impl Reached {
     #[inline(always)]
     // requires reached { reached_pel self < 2 ^ 16 }
     // requires near { b1 < 2 ^ 16 }
+    // ensures place { IfSome result (λ a1. pos a1 ≡ pos b1 +ℤ d) }
+    // ensures right { IfSome result
+    //     (λ a1. Spec.a0_number (position_of self []) <ℤ pos a1) }
+    // ensures none { IfNone result
+    //     ((pos b1 +ℤ d) ≤ℤ Spec.a0_number (position_of self [])) }
     fn left_of(self, b1: u32, d: i8) -> Option<u32> {
         let place = b1 as i32 + i32::from(d);
         if place > self.number() {
@@ -81,7 +90,11 @@ impl PlacedReached {
 /// Pass mode: goes on to the pel below b2 (T.4, section 4.2.1.3.2).
 #[inline(always)]
 // requires inside { IsReadInside reference places.now at }
-pub(crate) fn under_b2(reference: PlacedRow, places: &[u32], at: PlacedReached) -> PlacedReached {
+// ensures step { let from = placed_position reference.entry.width places.now at in
+//     placed_position reference.entry.width places.now result
+//     ≡ Spec.coloured_up_to from (b2_from (placed_pels reference.entry) from) }
+// ensures so_far { IsReadTo reference.entry places.now result }
+pub(crate) fn under_b2(reference: PlacedRow, _places: &[u32], at: PlacedReached) -> PlacedReached {
     PlacedReached {
         reached: Reached {
             a0: Some(reference.places[at.b1 + 1]),
@@ -100,8 +113,13 @@ pub(crate) fn under_b2(reference: PlacedRow, places: &[u32], at: PlacedReached) 
 // requires within { a1 ≤ reference.width }
 // requires b1 { a1 < reference.width
 //     → IsB1At reference (Some a1) (other_than at.reached.colour) b1 }
+// ensures step { (d : ℤ) → pos a1 ≡ pos (slice_index reference.entry.places.now at.b1) +ℤ d
+//     → Spec.IsVerticalStep (placed_pels reference.entry)
+//     (placed_position reference.entry.width places.old at) d
+//     (placed_position reference.entry.width places.new result) }
+// ensures so_far { IsReadTo reference.entry places.new result }
 fn turned_at(
-    reference: PlacedRow,
+    _reference: PlacedRow,
     places: &mut [u32],
     at: PlacedReached,
     a1: u32,
@@ -123,6 +141,10 @@ fn turned_at(
 /// section 4.2.1.3.2). The next b1 is the reference row's next changing element.
 #[inline(always)]
 // requires inside { IsReadInside reference places.old at }
+// ensures step { Spec.IsVerticalStep (placed_pels reference.entry)
+//     (placed_position reference.entry.width places.old at) (pos 0)
+//     (placed_position reference.entry.width places.new result) }
+// ensures so_far { IsReadTo reference.entry places.new result }
 pub(crate) fn under_b1(reference: PlacedRow, places: &mut [u32], at: PlacedReached) -> PlacedReached {
     turned_at(reference, places, at, reference.places[at.b1], at.b1 + 1)
 }
@@ -132,6 +154,13 @@ pub(crate) fn under_b1(reference: PlacedRow, places: &mut [u32], at: PlacedReach
 #[inline(always)]
 // requires inside { IsReadInside reference places.old at }
 // requires right { pos 0 ≤ℤ d }
+// ensures step { IfSome result (λ next. Spec.IsVerticalStep (placed_pels reference.entry)
+//     (placed_position reference.entry.width places.old at) d
+//     (placed_position reference.entry.width places.new next)) }
+// ensures so_far { IfSome result (λ next. IsReadTo reference.entry places.new next) }
+// ensures out { IfNone result (Spec.IsInRow (placed_pels reference.entry)
+//     (placed_position reference.entry.width places.old at) d → ⊥) }
+// ensures room { HasRoom reference.entry.width places.new }
 pub(crate) fn right_of_b1(
     reference: PlacedRow,
     places: &mut [u32],
@@ -151,6 +180,13 @@ pub(crate) fn right_of_b1(
 #[inline(always)]
 // requires inside { IsReadInside reference places.old at }
 // requires left { d ≤ℤ negsuc 0 }
+// ensures step { IfSome result (λ next. Spec.IsVerticalStep (placed_pels reference.entry)
+//     (placed_position reference.entry.width places.old at) d
+//     (placed_position reference.entry.width places.new next)) }
+// ensures so_far { IfSome result (λ next. IsReadTo reference.entry places.new next) }
+// ensures out { IfNone result (Spec.IsInRow (placed_pels reference.entry)
+//     (placed_position reference.entry.width places.old at) d → ⊥) }
+// ensures room { HasRoom reference.entry.width places.new }
 pub(crate) fn left_of_b1(
     reference: PlacedRow,
     places: &mut [u32],
@@ -167,6 +203,14 @@ pub(crate) fn left_of_b1(
 #[inline(always)]
 // requires inside { IsReadInside reference places.old at }
 // requires within { reached_pel at.reached + first + second ≤ reference.width }
+// ensures step { (b middle rest : List Bool) → IsRun at.reached.colour b first middle
+//     → IsRun (other_than at.reached.colour) middle second rest
+//     → Spec.IsHorizontalStep (placed_pels reference.entry)
+//     (placed_position reference.entry.width places.old at) b
+//     (placed_position reference.entry.width places.new result) rest }
+// ensures placed { placed_position reference.entry.width places.new result
+//     ≡ after_pair (placed_position reference.entry.width places.old at) first second }
+// ensures so_far { IsReadTo reference.entry places.new result }
 pub(crate) fn after_runs(
     reference: PlacedRow,
     places: &mut [u32],

@@ -1,3 +1,4 @@
+// Made by tools/plain-rust of crates/fax_tool/src/commands/check.rt: change that.
 //! `check`: what is worth a note in a file.
 
 use kit_std::prelude::String;
@@ -18,6 +19,8 @@ type ReportLine = ArrayString<64>;
 
 /// Appends the number of a strip, where there is one.
 // requires { array_string_len line.old + 17 ≤ 64 }
+// ensures text { line.new.bytes ≡ line.old.bytes ++ Parts.and_strip strip }
+// ensures len { array_string_len line.new ≤ array_string_len line.old + 17 }
 fn push_strip(line: &mut ReportLine, strip: Option<u32>) {
     if let Some(strip) = strip {
         line.push_str(" strip");
@@ -27,6 +30,7 @@ fn push_strip(line: &mut ReportLine, strip: Option<u32>) {
 
 /// The line of a note: `note page P strip S`, or without a strip where it is on the page's
 /// directory, and the note's number and name.
+// ensures { result.bytes ≡ Text.note_line note }
 fn note_line(note: Note) -> ReportLine {
     let mut digits = Buffer::new();
     let mut line = ReportLine::new();
@@ -42,6 +46,7 @@ fn note_line(note: Note) -> ReportLine {
 }
 
 /// The last line: how many pages were read wholly, and how many rows.
+// ensures { result.bytes ≡ Parts.counts_line pages rows }
 fn counts_line(pages: u64, rows: u64) -> ReportLine {
     let mut line = ReportLine::new();
     line.push_str("pages");
@@ -53,11 +58,13 @@ fn counts_line(pages: u64, rows: u64) -> ReportLine {
 }
 
 /// Appends a line.
+// ensures { OnOk result (string_bytes text.new ≡ string_bytes text.old ++ line.bytes) }
 fn put(text: &mut String, line: ReportLine) -> Result<(), Memory> {
     text.push_str(line.as_str()).map_err(|_| Memory)
 }
 
 /// The text of a report: its notes, line by line, and its counts.
+// ensures { IfOk result (λ text. string_bytes text ≡ Parts.report_output report.now) }
 fn report_text(alloc: Global, report: &Report) -> Result<String, Memory> {
     let mut text = String::new(alloc);
     for note in &report.notes {
@@ -68,6 +75,8 @@ fn report_text(alloc: Global, report: &Report) -> Result<String, Memory> {
 }
 
 /// The line of a report's fault, if there is one.
+// ensures error { (Text.report_text report.now).error ≡ Outcome.error_of result }
+// ensures status { (Text.report_text report.now).status ≡ Outcome.status_of result }
 fn fault_line(report: &Report) -> Option<ErrorLine> {
     let (place, cause) = report.fault?;
     Some(row_fault_line(place.page, place.row, cause))
@@ -78,6 +87,12 @@ fn fault_line(report: &Report) -> Option<ErrorLine> {
 // requires input_counts { R.counts input.old ≡ no_faults }
 // requires taken { R.taken input.old ≡ 0 }
 // requires counts { W.counts out.old ≡ no_faults }
+// ensures ok { IfOk result (IsDone Check
+//     (input_after (R.left input.old) (R.taken input.new) (R.counts input.new))
+//     (output_after (W.written out.old) (W.written out.new) (W.counts out.new))) }
+// ensures err { IfErr result (λ refusal. IsStopped Check refusal
+//     (input_after (R.left input.old) (R.taken input.new) (R.counts input.new))
+//     (output_after (W.written out.old) (W.written out.new) (W.counts out.new))) }
 pub fn give_report<R: Source, W: Sink>(
     alloc: Global,
     input: &mut R,

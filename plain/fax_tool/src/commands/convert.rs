@@ -1,3 +1,4 @@
+// Made by tools/plain-rust of crates/fax_tool/src/commands/convert.rt: change that.
 //! `convert`: the pages in another form.
 
 use crate::refusal::Refusal;
@@ -15,6 +16,10 @@ const BLOCK: usize = 65_536;
 // requires block { block.now ≡ replicate (length block.now) 0 }
 // requires some { 0 < length block.now }
 // requires counts { W.counts out.old ≡ counted interruptions.old }
+// ensures ok { OnOk result (Appends (W.written out.old) (W.written out.new) (replicate zeros 0)) }
+// ensures counts { OnOk result (W.counts out.new ≡ counted interruptions.new) }
+// ensures err { IfErr result (IsGivenInPart (W.written out.old) (W.written out.new)
+//     (replicate zeros 0) (W.counts out.new)) }
 fn give_zeros<W: Sink>(
     out: &mut W,
     interruptions: &mut Interruptions,
@@ -34,6 +39,11 @@ fn give_zeros<W: Sink>(
 // requires block { block.now ≡ replicate (length block.now) 0 }
 // requires some { 0 < length block.now }
 // requires counts { W.counts out.old ≡ counted interruptions.old }
+// ensures ok { OnOk result (Appends (W.written out.old) (W.written out.new)
+//     (part_bytes part.entry)) }
+// ensures counts { OnOk result (W.counts out.new ≡ counted interruptions.new) }
+// ensures err { IfErr result (IsGivenInPart (W.written out.old) (W.written out.new)
+//     (part_bytes part.entry) (W.counts out.new)) }
 fn give_part<W: Sink>(
     out: &mut W,
     interruptions: &mut Interruptions,
@@ -48,6 +58,10 @@ fn give_part<W: Sink>(
 // requires block { block.now ≡ replicate (length block.now) 0 }
 // requires some { 0 < length block.now }
 // requires counts { W.counts out.old ≡ no_faults }
+// ensures ok { OnOk result (Appends (W.written out.old) (W.written out.new) output.now) }
+// ensures worked { OnOk result (HasWorked (W.counts out.new)) }
+// ensures err { IfErr result (IsGivenInPart (W.written out.old) (W.written out.new) output.now
+//     (W.counts out.new)) }
 fn give_parts<W: Sink>(out: &mut W, block: &[u8], output: &Parts) -> Result<(), Refusal> {
     let mut interruptions = Interruptions::NONE;
     let mut left = output.parts();
@@ -62,6 +76,14 @@ fn give_parts<W: Sink>(out: &mut W, block: &[u8], output: &Parts) -> Result<(), 
 /// images are not held; any other input is read whole.
 // requires counts { R.counts input.old ≡ no_faults }
 // requires taken { R.taken input.old ≡ 0 }
+// ensures converts { IfOk result (λ answer. (file : List ℕ)
+//     × IfSome (R.left input.old) (λ bytes. file ≡ bytes)
+//     × IfOk answer (λ output. IsConverted file options output)
+//     × IfErr answer (λ fault. fault ≢ ConvertFault.Memory → IsNotConverted file options fault)) }
+// ensures read { OnOk result (IsRead
+//     (input_after (R.left input.old) (R.taken input.new) (R.counts input.new))) }
+// ensures reason { IfErr result (λ refusal. HasReadReason refusal
+//     (input_after (R.left input.old) (R.taken input.new) (R.counts input.new))) }
 fn read_conversion<R: Source>(
     alloc: Global,
     options: Options,
@@ -94,6 +116,12 @@ fn read_conversion<R: Source>(
 // requires input_counts { R.counts input.old ≡ no_faults }
 // requires taken { R.taken input.old ≡ 0 }
 // requires counts { W.counts out.old ≡ no_faults }
+// ensures ok { IfOk result (IsDone (Convert options)
+//     (input_after (R.left input.old) (R.taken input.new) (R.counts input.new))
+//     (output_after (W.written out.old) (W.written out.new) (W.counts out.new))) }
+// ensures err { IfErr result (λ refusal. IsStopped (Convert options) refusal
+//     (input_after (R.left input.old) (R.taken input.new) (R.counts input.new))
+//     (output_after (W.written out.old) (W.written out.new) (W.counts out.new))) }
 pub fn give_conversion<R: Source, W: Sink>(
     alloc: Global,
     options: Options,

@@ -1,3 +1,4 @@
+// Made by tools/plain-rust of crates/fax_tool/src/commands/print.rt: change that.
 //! `rows` and `list`: the runs of each row, or the form of each page, line by line.
 
 use kit_std::prelude::{String, Vec};
@@ -18,6 +19,7 @@ use kit_std::alloc::Global;
 const ENOUGH_TEXT: usize = 65_536;
 
 /// The line that a run ends with where rows are left, made without memory: `next` and the cursor.
+// ensures { result.bytes ≡ next_line (At cursor) }
 fn next_line(cursor: Cursor) -> ArrayString<29> {
     let mut line = ArrayString::new();
     line.push_str("next ");
@@ -28,6 +30,12 @@ fn next_line(cursor: Cursor) -> ArrayString<29> {
 
 /// Writes a text in two parts.
 // requires { W.counts out.old ≡ counted interruptions.old }
+// ensures ok { OnOk result (Appends (W.written out.old) (W.written out.new)
+//     (first.now ++ second.now)) }
+// ensures worked { OnOk result (HasWorked (W.counts out.new)) }
+// ensures err { IfErr result (IsGivenInPart (W.written out.old) (W.written out.new)
+//     (first.now ++ second.now)
+//     (W.counts out.new)) }
 fn give_two<W: Sink>(
     out: &mut W,
     interruptions: &mut Interruptions,
@@ -42,6 +50,8 @@ fn give_two<W: Sink>(
 
 /// Writes the lines that are whole, and the line that says where to go on, when memory was refused.
 // requires { W.counts out.old ≡ counted interruptions.old }
+// ensures { StopsWith (lines.now ++ next.now) result
+//     (output_after (W.written out.old) (W.written out.new) (W.counts out.new)) }
 fn stop_for_memory<W: Sink>(
     out: &mut W,
     interruptions: &mut Interruptions,
@@ -56,6 +66,12 @@ fn stop_for_memory<W: Sink>(
 
 /// Writes the text that is collected, and empties it; its room stays.
 // requires { W.counts out.old ≡ counted interruptions.old }
+// ensures ok { OnOk result (Appends (W.written out.old) (W.written out.new) text.old) }
+// ensures emptied { OnOk result (text.new ≡ []) }
+// ensures counts { OnOk result (W.counts out.new ≡ counted interruptions.new) }
+// ensures worked { OnOk result (HasWorked (W.counts out.new)) }
+// ensures err { IfErr result (IsGivenInPart (W.written out.old) (W.written out.new) text.old
+//     (W.counts out.new)) }
 pub fn write_out<W: Sink>(
     out: &mut W,
     interruptions: &mut Interruptions,
@@ -68,6 +84,10 @@ pub fn write_out<W: Sink>(
 
 /// Writes the text that is collected where it is long, and empties it then.
 // requires { W.counts out.old ≡ counted interruptions.old }
+// ensures ok { OnOk result (SendsPart (W.written out.old) (W.written out.new) text.old text.new) }
+// ensures counts { OnOk result (W.counts out.new ≡ counted interruptions.new) }
+// ensures err { IfErr result (IsGivenInPart (W.written out.old) (W.written out.new) text.old
+//     (W.counts out.new)) }
 pub fn write_where_long<W: Sink>(
     out: &mut W,
     interruptions: &mut Interruptions,
@@ -83,6 +103,7 @@ pub fn write_where_long<W: Sink>(
 
 /// What is left of a limit after one more line.
 // requires { IfSome left (λ n. 0 < n) }
+// ensures { result ≡ option_map (λ n. n - 1) left }
 fn after_one(left: Option<u32>) -> Option<u32> {
     match left {
         Some(n) => Some(n - 1),
@@ -93,6 +114,15 @@ fn after_one(left: Option<u32>) -> Option<u32> {
 /// Prints the lines, up to the limit, and answers how they ended, or `None` at the limit.
 // requires counts { W.counts out.old ≡ counted interruptions.old }
 // requires fresh { L.given lines.old ≡ 0 }
+// ensures ok { IfOk result (λ ending. PrintsLines (L.tail lines.old) max ending
+//     (L.given lines.new) (W.written out.old) (W.written out.new)) }
+// ensures tail { OnOk result ((all : List PrintedLine) (end : TheEnd) → L.tail lines.old all end
+//     ↔ L.tail lines.new all end) }
+// ensures begun { OnOk result (L.begun lines.new ≡ L.begun lines.old) }
+// ensures counts { OnOk result (W.counts out.new ≡ counted interruptions.new) }
+// ensures err { IfErr result (λ refusal. StopsPrinting (λ _. ⊥)
+//     (IsTextOfFirst (L.tail lines.old) max (L.begun lines.old)) refusal
+//     (output_after (W.written out.old) (W.written out.new) (W.counts out.new))) }
 fn print_lines<L: Lines, W: Sink>(
     alloc: Global,
     lines: &mut L,
@@ -125,6 +155,8 @@ fn print_lines<L: Lines, W: Sink>(
 }
 
 /// The line that says where to go on, with the long cursor, where there is one.
+// ensures { IfOk result (λ line. IsNextLine (L.tail lines.now) (L.begun lines.now)
+//     (L.given lines.now) true (string_bytes line)) }
 fn long_next_line<L: Lines>(alloc: Global, lines: &L) -> Result<String, Memory> {
     lines.are_one();
     let mut line = String::from_str(alloc, "next ").map_err(|_| Memory)?;
@@ -138,6 +170,15 @@ fn long_next_line<L: Lines>(alloc: Global, lines: &L) -> Result<String, Memory> 
 
 /// Writes where to go on, with a long cursor where it is asked for and there is one.
 // requires { W.counts out.old ≡ counted interruptions.old }
+// ensures ok { OnOk result ((line : List ℕ) × IsNextLine (L.tail lines.now)
+//     (L.begun lines.now) (L.given lines.now) long line
+//     × Appends (W.written out.old) (W.written out.new) line) }
+// ensures worked { OnOk result (HasWorked (W.counts out.new)) }
+// ensures err { IfErr result (λ refusal. StopsPrinting
+//     (λ printed. IsNextLine (L.tail lines.now) (L.begun lines.now) (L.given lines.now) long
+//     printed.output)
+//     (IsNextLine (L.tail lines.now) (L.begun lines.now) (L.given lines.now) false) refusal
+//     (output_after (W.written out.old) (W.written out.new) (W.counts out.new))) }
 fn give_next<L: Lines, W: Sink>(
     alloc: Global,
     lines: &L,
@@ -166,6 +207,15 @@ struct LastLine {
 /// Writes the last line of the output: `end`, or where to go on, or none for a cursor outside of
 /// the file. Where printing ended at its limit there is no end.
 // requires { W.counts out.old ≡ counted interruptions.old }
+// ensures ok { OnOk result ((line : List ℕ) × IsLastLine (L.tail lines.now)
+//     (L.begun lines.now) (L.given lines.now) last.long last.ending line
+//     × Appends (W.written out.old) (W.written out.new) line) }
+// ensures worked { OnOk result (HasWorked (W.counts out.new)) }
+// ensures err { IfErr result (λ refusal. StopsPrinting
+//     (λ printed. IsLastLine (L.tail lines.now) (L.begun lines.now) (L.given lines.now)
+//     last.long last.ending printed.output)
+//     (IsNextLine (L.tail lines.now) (L.begun lines.now) (L.given lines.now) false) refusal
+//     (output_after (W.written out.old) (W.written out.new) (W.counts out.new))) }
 fn give_last_line<L: Lines, W: Sink>(
     alloc: Global,
     lines: &L,
@@ -185,6 +235,14 @@ fn give_last_line<L: Lines, W: Sink>(
 /// there is one.
 // requires counts { W.counts out.old ≡ no_faults }
 // requires fresh { L.given lines.old ≡ 0 }
+// ensures ok { IfOk result (WritesOutput
+//     (IsTextOfLines (L.tail lines.old) long max (L.begun lines.old))
+//     (output_after (W.written out.old) (W.written out.new) (W.counts out.new))) }
+// ensures worked { OnOk result (HasWorked (W.counts out.new)) }
+// ensures err { IfErr result (λ refusal. StopsPrinting
+//     (IsTextOfLines (L.tail lines.old) long max (L.begun lines.old))
+//     (IsTextOfFirst (L.tail lines.old) max (L.begun lines.old)) refusal
+//     (output_after (W.written out.old) (W.written out.new) (W.counts out.new))) }
 fn print_all<L: Lines, W: Sink>(
     alloc: Global,
     lines: &mut L,
@@ -204,6 +262,14 @@ fn print_all<L: Lines, W: Sink>(
 // requires input_counts { R.counts input.old ≡ no_faults }
 // requires taken { R.taken input.old ≡ 0 }
 // requires counts { W.counts out.old ≡ no_faults }
+// ensures whole { IfOk result (λ file. IfSome (R.left input.old) (λ bytes. file.items ≡ bytes)) }
+// ensures limit { IfOk result (λ file. vec_len file ≤ max_file) }
+// ensures read { OnOk result (IsRead
+//     (input_after (R.left input.old) (R.taken input.new) (R.counts input.new))) }
+// ensures unwritten { OnOk result (out.new ≡ out.old) }
+// ensures err { IfErr result (λ refusal. StopsAtBeginning (next_line (At cursor)) refusal
+//     (input_after (R.left input.old) (R.taken input.new) (R.counts input.new))
+//     (output_after (W.written out.old) (W.written out.new) (W.counts out.new))) }
 fn read_or_stop<R: Source, W: Sink>(
     alloc: Global,
     cursor: Cursor,
@@ -225,6 +291,11 @@ fn read_or_stop<R: Source, W: Sink>(
 
 /// What the rows of a part begin with. Where memory is refused it writes where to go on: there.
 // requires { W.counts out.old ≡ no_faults }
+// ensures ok { IfOk result (λ begun. begun ≡ begun_of part.now) }
+// ensures unwritten { OnOk result (out.new ≡ out.old) }
+// ensures err { IfErr result (λ refusal. StopsWith
+//     (next_line (At (begun_cursor (begun_of part.now)))) refusal
+//     (output_after (W.written out.old) (W.written out.new) (W.counts out.new))) }
 fn begin_or_stop<W: Sink>(part: &Selection, out: &mut W) -> Result<Begun, Refusal> {
     match part.begun() {
         Ok(begun) => Ok(begun),
@@ -242,13 +313,18 @@ fn begin_or_stop<W: Sink>(part: &Selection, out: &mut W) -> Result<Begun, Refusa
 // requires input_counts { R.counts input.old ≡ no_faults }
 // requires taken { R.taken input.old ≡ 0 }
 // requires counts { W.counts out.old ≡ no_faults }
+// ensures ok { IfOk result (IsDone (Rows part.now)
+//     (input_after (R.left input.old) (R.taken input.new) (R.counts input.new))
+//     (output_after (W.written out.old) (W.written out.new) (W.counts out.new))) }
+// ensures err { IfErr result (λ refusal. IsStopped (Rows part.now) refusal
+//     (input_after (R.left input.old) (R.taken input.new) (R.counts input.new))
+//     (output_after (W.written out.old) (W.written out.new) (W.counts out.new))) }
 pub fn rows<R: Source, W: Sink>(
     alloc: Global,
     part: &Selection,
     input: &mut R,
     out: &mut W,
 ) -> Result<Option<ErrorLine>, Refusal> {
-    fax_walk::laws::beginnings_have_one_tail();
     let begun = begin_or_stop(part, out)?;
     let file = read_or_stop(alloc, part.begin(), input, out)?;
     let mut walk = Walk::begin(alloc, &file, begun);
@@ -260,13 +336,18 @@ pub fn rows<R: Source, W: Sink>(
 // requires input_counts { R.counts input.old ≡ no_faults }
 // requires taken { R.taken input.old ≡ 0 }
 // requires counts { W.counts out.old ≡ no_faults }
+// ensures ok { IfOk result (IsDone (Forms part.now)
+//     (input_after (R.left input.old) (R.taken input.new) (R.counts input.new))
+//     (output_after (W.written out.old) (W.written out.new) (W.counts out.new))) }
+// ensures err { IfErr result (λ refusal. IsStopped (Forms part.now) refusal
+//     (input_after (R.left input.old) (R.taken input.new) (R.counts input.new))
+//     (output_after (W.written out.old) (W.written out.new) (W.counts out.new))) }
 pub fn list<R: Source, W: Sink>(
     alloc: Global,
     part: &Selection,
     input: &mut R,
     out: &mut W,
 ) -> Result<Option<ErrorLine>, Refusal> {
-    fax_walk::laws::form_tails_are_one();
     let file = read_or_stop(alloc, part.cursor, input, out)?;
     let mut pages = Pages::resume(&file, part.cursor);
     print_all(alloc, &mut pages, part.max, false, out)

@@ -1,3 +1,4 @@
+// Made by tools/plain-rust of crates/fax_tool/src/commands/printed_lines.rt: change that.
 //! What is printed line by line: the rows of a file, or its pages.
 
 use crate::text::collected::Collected;
@@ -12,21 +13,35 @@ use kit_std::alloc::Global;
 /// line makes less.
 pub trait Lines {
     /// The cursor after what the last line told, or the one that the lines began with.
+    // ensures { (next : Begun)
+    //     × IsNextAfter (tail self.now) (begun self.now) (given self.now) next
+    //     × (result ≡ begun_cursor next) }
     fn cursor(&self) -> Cursor;
 
     /// The place inside a strip after what the last line told, or the one that the lines began
     /// with, if there is one.
+    // ensures { IfOk result (λ place. (next : Begun)
+    //     × IsNextAfter (tail self.now) (begun self.now) (given self.now) next
+    //     × (place ≡ begun_place next)) }
     fn long_cursor(&self, alloc: Global) -> Result<Option<LongCursor>, Memory>;
 
     /// Collects the next line after the text, or answers how the lines ended. Where memory is
     /// refused the text is as it was.
+    // ensures tail { (lines : List PrintedLine) (end : TheEnd) → tail self.old lines end
+    //     ↔ tail self.new lines end }
+    // ensures begun { begun self.new ≡ begun self.old }
+    // ensures fewer { IfOk result (λ end. end ≡ None → left self.new < left self.old) }
+    // ensures put { IsLinePut (tail self.old) (given self.old) text.old result (given self.new)
+    //     text.new }
     fn put_next(&mut self, text: &mut Collected) -> Result<Option<End>, Memory>;
 
     /// The lines and the end after them are one. It computes nothing.
+    // ensures { IsOne (tail self.now) }
     fn are_one(&self);
 }
 
 /// How lines end where a walk or a reader of pages answers so; want of memory is no end.
+// ensures { IfOk result (λ end. Spec.end_of fault ≡ Some end) }
 pub fn end_of(fault: WalkFault) -> Result<End, Memory> {
     match fault {
         WalkFault::AtRow { page, row, cause } => Ok(End::Fault { page, row, cause }),
@@ -38,12 +53,10 @@ pub fn end_of(fault: WalkFault) -> Result<End, Memory> {
 /// A line for each row.
 impl Lines for Walk<'_> {
     fn cursor(&self) -> Cursor {
-        fax_walk::laws::beginnings_have_one_tail();
         Walk::cursor(self)
     }
 
     fn long_cursor(&self, alloc: Global) -> Result<Option<LongCursor>, Memory> {
-        fax_walk::laws::beginnings_have_one_tail();
         Walk::long_cursor(self, alloc)
     }
 
@@ -58,20 +71,16 @@ impl Lines for Walk<'_> {
         }
     }
 
-    fn are_one(&self) {
-        fax_walk::laws::beginnings_have_one_tail();
-    }
+    fn are_one(&self) {}
 }
 
 /// A line for each page.
 impl Lines for Pages<'_> {
     fn cursor(&self) -> Cursor {
-        fax_walk::laws::form_tails_are_one();
         Pages::cursor(self)
     }
 
     fn long_cursor(&self, _alloc: Global) -> Result<Option<LongCursor>, Memory> {
-        fax_walk::laws::form_tails_are_one();
         // For the proof: what a cursor says is known of the pages.
         let _after = Pages::cursor(self);
         Ok(None)
@@ -88,7 +97,5 @@ impl Lines for Pages<'_> {
         }
     }
 
-    fn are_one(&self) {
-        fax_walk::laws::form_tails_are_one();
-    }
+    fn are_one(&self) {}
 }

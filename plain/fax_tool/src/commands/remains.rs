@@ -1,3 +1,4 @@
+// Made by tools/plain-rust of crates/fax_tool/src/commands/remains.rt: change that.
 //! `salvage`: what is left of the rows of a damaged file.
 
 use crate::commands::print::{write_out, write_where_long};
@@ -19,14 +20,25 @@ use kit_std::alloc::Global;
 pub trait Remains {
     /// Collects the next line after the text, or answers that there is none. Where memory is
     /// refused the text is as it was.
+    // ensures same { (lines : List (List ℕ)) → are self.old lines ↔ are self.new lines }
+    // ensures fewer { IfOk result (λ more. more ≡ true → left self.new < left self.old) }
+    // ensures put { IsLinePut (are self.old) (given self.old) text.old result (given self.new)
+    //     text.new }
+    // ensures still_well { is_well self.new → is_well self.old }
+    // ensures well { IfOk result
+    //     (λ more. more ≡ false → says_well self.new ≡ true → is_well self.old) }
     fn put_next(&mut self, text: &mut Collected) -> Result<bool, Memory>;
 
     /// The lines are one list. It computes nothing.
+    // ensures { IsOneList (are self.now) }
     fn are_one(&self);
 }
 
 /// Collects the line of a row that was found, which the reader lends.
 // requires { salvage.now.last ≢ None }
+// ensures ok { OnOk result (text.new ≡ text.old
+//     ++ row_line_of place.page place.row (runs_of (unwrap_or salvage.now.last []))) }
+// ensures err { OnErr result (text.new ≡ text.old) }
 fn put_found(salvage: &Salvage<'_>, place: Place, text: &mut Collected) -> Result<(), Memory> {
     match salvage.row() {
         Some(row) => put_row_line(text, place, row),
@@ -37,7 +49,6 @@ fn put_found(salvage: &Salvage<'_>, place: Place, text: &mut Collected) -> Resul
 /// A line for each row that is found, each stretch that is lost, and each page that is refused.
 impl Remains for Salvage<'_> {
     fn put_next(&mut self, text: &mut Collected) -> Result<bool, Memory> {
-        fax_walk::laws::files_are_salvaged_in_one_way();
         let Some(item) = self.next_item()? else {
             return Ok(false);
         };
@@ -49,14 +60,20 @@ impl Remains for Salvage<'_> {
         Ok(true)
     }
 
-    fn are_one(&self) {
-        fax_walk::laws::files_are_salvaged_in_one_way();
-    }
+    fn are_one(&self) {}
 }
 
 /// Prints the lines of what is left of a file.
 // requires counts { W.counts out.old ≡ counted interruptions.old }
 // requires fresh { R.given remains.old ≡ 0 }
+// ensures ok { OnOk result ((lines : List (List ℕ)) × R.are remains.old lines
+//     × Appends (W.written out.old) (W.written out.new) (texts_of lines)) }
+// ensures counts { OnOk result (W.counts out.new ≡ counted interruptions.new) }
+// ensures worked { OnOk result (HasWorked (W.counts out.new)) }
+// ensures well { OnOk result (R.says_well remains.new ≡ true → R.is_well remains.old) }
+// ensures err { IfErr result (λ refusal. StopsPrinting (λ _. ⊥)
+//     (IsFrontOf (R.are remains.old)) refusal
+//     (output_after (W.written out.old) (W.written out.new) (W.counts out.new))) }
 fn print_remains<R: Remains, W: Sink>(
     alloc: Global,
     remains: &mut R,
@@ -79,6 +96,12 @@ fn print_remains<R: Remains, W: Sink>(
 }
 
 /// Passes by the next row, or answers how the rows ended.
+// ensures file { walk.new.file ≡ walk.old.file }
+// ensures begun { walk.new.begun ≡ walk.old.begun }
+// ensures fewer { IfOk result (λ end. end ≡ None
+//     → (walk.old.given < walk.new.given) × (walk.new.given < 2 ^ 64)) }
+// ensures ended { IfOk result (λ end. IfSome end
+//     (EndsAfter (IsTailFrom walk.old.file walk.old.begun) walk.old.given)) }
 fn pass_row(walk: &mut Walk<'_>) -> Result<Option<End>, Memory> {
     match walk.next_row() {
         Ok(Some(_)) => Ok(None),
@@ -89,6 +112,8 @@ fn pass_row(walk: &mut Walk<'_>) -> Result<Option<End>, Memory> {
 
 /// How the rows of a file end: properly where it is known that nothing is lost.
 // requires { is_whole ≡ true → (rows : List RowItem) × AreItems file.now rows Proper }
+// ensures { IfOk result (λ end.
+//     (rows : List RowItem) × AreItems file.now rows end) }
 fn end_of_walk(alloc: Global, file: &[u8], is_whole: bool) -> Result<End, Memory> {
     // A walk of its own finds the first fault, after all lines are printed: the definition of
     // `rows` alone says it, and nothing that comes after a fault can change it. Where all was whole
@@ -96,7 +121,6 @@ fn end_of_walk(alloc: Global, file: &[u8], is_whole: bool) -> Result<End, Memory
     if is_whole {
         return Ok(End::Proper);
     }
-    fax_walk::laws::tails_go_on();
     let mut walk = Walk::start(alloc, file);
     loop {
         if let Some(end) = pass_row(&mut walk)? {
@@ -111,12 +135,17 @@ fn end_of_walk(alloc: Global, file: &[u8], is_whole: bool) -> Result<End, Memory
 // requires input_counts { R.counts input.old ≡ no_faults }
 // requires taken { R.taken input.old ≡ 0 }
 // requires counts { W.counts out.old ≡ no_faults }
+// ensures ok { IfOk result (IsDone Salvaging
+//     (input_after (R.left input.old) (R.taken input.new) (R.counts input.new))
+//     (output_after (W.written out.old) (W.written out.new) (W.counts out.new))) }
+// ensures err { IfErr result (λ refusal. IsStopped Salvaging refusal
+//     (input_after (R.left input.old) (R.taken input.new) (R.counts input.new))
+//     (output_after (W.written out.old) (W.written out.new) (W.counts out.new))) }
 pub fn salvage<R: Source, W: Sink>(
     alloc: Global,
     input: &mut R,
     out: &mut W,
 ) -> Result<Option<ErrorLine>, Refusal> {
-    fax_walk::laws::files_are_salvaged_in_one_way();
     let file = read_whole(alloc, input)?;
     let mut interruptions = Interruptions::NONE;
     let mut left = Salvage::begin(alloc, &file);

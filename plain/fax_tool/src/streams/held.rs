@@ -1,3 +1,4 @@
+// Made by tools/plain-rust of crates/fax_tool/src/streams/held.rt: change that.
 //! Bytes of a source that are held, in room that is used again.
 
 use kit_std::prelude::Vec;
@@ -21,6 +22,8 @@ impl Model for Held {}
 impl Held {
     /// No bytes, and room for so many.
     // requires { 0 < room }
+    // ensures none { IfOk result (λ held. held ≡ record { bytes = []; taken = 0 }) }
+    // ensures memory { IfErr result (λ refusal. refusal ≡ Memory) }
     pub(crate) fn new(alloc: Global, room: usize) -> Result<Self, Refusal> {
         Ok(Held {
             room: zero_bytes(alloc, room)?,
@@ -30,12 +33,14 @@ impl Held {
     }
 
     /// The bytes.
+    // ensures { result.now ≡ self.now.bytes }
     pub(crate) fn bytes(&self) -> &[u8] {
         &self.room[..self.len]
     }
 
     /// Drops so many bytes from the front.
     // requires { count ≤ length self.old.bytes }
+    // ensures { self.new ≡ record { bytes = drop count self.old.bytes; taken = self.old.taken } }
     pub(crate) fn drop_front(&mut self, count: usize) {
         // Where nothing is dropped nothing is moved.
         if count == 0 {
@@ -55,6 +60,12 @@ impl Held {
     /// the source has more than 268,435,456 bytes.
     // requires counts { R.counts input.old ≡ counted interruptions.old }
     // requires taken { R.taken input.old ≡ self.old.taken }
+    // ensures more { IfOk result (HoldsMore (R.left input.old) (R.left input.new) self.old
+    //     self.new) }
+    // ensures counts { OnOk result (R.counts input.new ≡ counted interruptions.new) }
+    // ensures taken { OnOk result (R.taken input.new ≡ self.new.taken) }
+    // ensures reason { IfErr result (λ refusal. HasReadReason refusal
+    //     (input_after (R.left input.old) (R.taken input.new) (R.counts input.new))) }
     pub(crate) fn fill<R: Source>(
         &mut self,
         input: &mut R,

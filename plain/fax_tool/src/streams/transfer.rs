@@ -1,3 +1,4 @@
+// Made by tools/plain-rust of crates/fax_tool/src/streams/transfer.rt: change that.
 //! Whole transfers: a source to its end, and all of some bytes to a sink.
 
 use kit_std::prelude::{Vec, vec};
@@ -35,12 +36,18 @@ impl Interruptions {
     pub const NONE: Interruptions = Interruptions { count: 0 };
 
     /// They are not too many. It computes nothing.
+    // ensures { self.now ≤ most_interrupted }
     pub(crate) fn are_few(&self) {
         let _ = &self.count;
     }
 
     /// Whether a call with this fault is made again: an interrupted one, up to 1,023 times on a
     /// stream.
+    // ensures again { IsTrue result → counted self.new
+    //     ≡ counts_after (Err fault) (counted self.old) }
+    // ensures fewer { IsTrue result → most_interrupted - self.new
+    //     < most_interrupted - self.old }
+    // ensures failed { result ≡ false → HasFailed (counts_after (Err fault) (counted self.old)) }
     pub(crate) fn allow(&mut self, fault: StreamFault) -> bool {
         // Each stream of a run has its own count. An interrupted read has moved nothing, so that
         // the bytes after it are known; a read that failed may leave them unknown.
@@ -55,6 +62,9 @@ impl Interruptions {
 }
 
 /// So many zero bytes.
+// ensures zeros { IfOk result (λ bytes. bytes.items ≡ replicate (vec_len bytes) 0) }
+// ensures len { IfOk result (λ bytes. vec_len bytes ≡ len) }
+// ensures memory { IfErr result (λ refusal. refusal ≡ Memory) }
 pub(crate) fn zero_bytes(alloc: Global, len: usize) -> Result<Vec<u8>, Refusal> {
     vec![in alloc; 0u8; len].map_err(|_| Refusal::Memory)
 }
@@ -68,6 +78,13 @@ pub(crate) fn zero_bytes(alloc: Global, len: usize) -> Result<Vec<u8>, Refusal> 
 // requires taken { R.taken input.old ≡ held.taken }
 // requires all { held.taken ≡ length held.bytes }
 // requires end { ended ≡ true → IsAtEnd (R.left input.old) }
+// ensures whole { IfOk result (λ file. (text : List ℕ) × (file.items ≡ held.bytes ++ text)
+//     × Consumes (R.left input.old) (R.left input.new) text × IsAtEnd (R.left input.new)) }
+// ensures limit { IfOk result (λ file. vec_len file ≤ max_file) }
+// ensures read { OnOk result (IsRead
+//     (input_after (R.left input.old) (R.taken input.new) (R.counts input.new))) }
+// ensures reason { IfErr result (λ refusal. HasReadReason refusal
+//     (input_after (R.left input.old) (R.taken input.new) (R.counts input.new))) }
 pub(crate) fn read_rest<R: Source>(
     alloc: Global,
     input: &mut R,
@@ -99,6 +116,12 @@ pub(crate) fn read_rest<R: Source>(
 /// source has more bytes.
 // requires counts { R.counts input.old ≡ no_faults }
 // requires taken { R.taken input.old ≡ 0 }
+// ensures whole { IfOk result (λ file. IfSome (R.left input.old) (λ bytes. file.items ≡ bytes)) }
+// ensures limit { IfOk result (λ file. vec_len file ≤ max_file) }
+// ensures read { OnOk result (IsRead
+//     (input_after (R.left input.old) (R.taken input.new) (R.counts input.new))) }
+// ensures reason { IfErr result (λ refusal. HasReadReason refusal
+//     (input_after (R.left input.old) (R.taken input.new) (R.counts input.new))) }
 pub fn read_whole<R: Source>(alloc: Global, input: &mut R) -> Result<Vec<u8>, Refusal> {
     let mut interruptions = Interruptions::NONE;
     let mut held = Held::new(alloc, CHUNK)?;
@@ -113,6 +136,11 @@ pub fn read_whole<R: Source>(alloc: Global, input: &mut R) -> Result<Vec<u8>, Re
 /// `Write` where a write failed or 1,024 on this sink were interrupted; a front of the bytes was
 /// then written.
 // requires counts { W.counts out.old ≡ counted interruptions.old }
+// ensures ok { OnOk result (Appends (W.written out.old) (W.written out.new) bytes.now) }
+// ensures counts { OnOk result (W.counts out.new ≡ counted interruptions.new) }
+// ensures worked { OnOk result (HasWorked (W.counts out.new)) }
+// ensures err { IfErr result (IsGivenInPart (W.written out.old)
+//     (W.written out.new) bytes.now (W.counts out.new)) }
 pub fn give_all<W: Sink>(
     out: &mut W,
     interruptions: &mut Interruptions,

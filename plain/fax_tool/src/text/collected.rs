@@ -1,3 +1,4 @@
+// Made by tools/plain-rust of crates/fax_tool/src/text/collected.rt: change that.
 //! The text that is collected before it is written.
 
 use kit_std::prelude::Vec;
@@ -24,6 +25,9 @@ const LEAST_ROOM: usize = 1024;
 
 /// Makes room for so many bytes after a text that ends here.
 // requires { end ≤ vec_len bytes.old }
+// ensures room { OnOk result (end + more ≤ vec_len bytes.new) }
+// ensures within { end ≤ vec_len bytes.new }
+// ensures text { take end bytes.new.items ≡ take end bytes.old.items }
 pub(crate) fn make_room(bytes: &mut Vec<u8>, end: usize, more: usize) -> Result<(), Memory> {
     // Room for a whole line is made before any of it is written, so that no part of it stands among
     // the lines that are written where memory is refused.
@@ -36,6 +40,8 @@ pub(crate) fn make_room(bytes: &mut Vec<u8>, end: usize, more: usize) -> Result<
 
 /// Writes these bytes at a place, and answers where they end.
 // requires { at + length more.now ≤ length bytes.old }
+// ensures written { take result bytes.new ≡ take at bytes.old ++ more.now }
+// ensures end { result ≡ at + length more.now }
 pub(crate) fn write_bytes(bytes: &mut [u8], at: usize, more: &[u8]) -> usize {
     for (i, byte) in more.iter().enumerate() {
         bytes[at + i] = *byte;
@@ -45,6 +51,7 @@ pub(crate) fn write_bytes(bytes: &mut [u8], at: usize, more: &[u8]) -> usize {
 
 impl Collected {
     /// No text.
+    // ensures { result ≡ [] }
     pub fn new(alloc: Global) -> Self {
         Collected {
             bytes: Vec::new(alloc),
@@ -54,21 +61,26 @@ impl Collected {
     }
 
     /// How many bytes are collected.
+    // ensures { result ≡ length self.now }
     pub fn len(&self) -> usize {
         self.end
     }
 
     /// The text.
+    // ensures { result.now ≡ self.now }
     pub fn as_bytes(&self) -> &[u8] {
         &self.bytes[..self.end]
     }
 
     /// Empties it; its room stays.
+    // ensures { self.new ≡ [] }
     pub fn clear(&mut self) {
         self.end = 0;
     }
 
     /// Appends a text.
+    // ensures ok { OnOk result (self.new ≡ self.old ++ more.now) }
+    // ensures err { OnErr result (self.new ≡ self.old) }
     pub fn put(&mut self, more: &str) -> Result<(), Memory> {
         let end = self.end;
         make_room(&mut self.bytes, end, more.len())?;

@@ -1,3 +1,4 @@
+// Made by tools/plain-rust of crates/fax_tool/src/text/fault.rt: change that.
 //! The error lines of faults of the input.
 
 use crate::text::push_number;
@@ -16,6 +17,7 @@ impl Model for ErrorLine {}
 
 /// The line of a fault where a row was due: `fault page P row R`, the fault's name, and the tag of
 /// the field at fault.
+// ensures { result ≡ fault_line page row cause }
 pub fn row_fault_line(page: u32, row: u32, cause: Cause) -> ErrorLine {
     let (name, tag) = cause.name();
     let mut text = ArrayString::new();
@@ -33,6 +35,7 @@ pub fn row_fault_line(page: u32, row: u32, cause: Cause) -> ErrorLine {
 }
 
 /// The line of a fault of an image: `fault image I` and the fault's name.
+// ensures { result ≡ convert_fault_line (Pbm image fault) }
 fn image_line(image: u64, fault: PbmFault) -> ErrorLine {
     let mut text = ArrayString::new();
     text.push_str("fault image");
@@ -45,6 +48,7 @@ fn image_line(image: u64, fault: PbmFault) -> ErrorLine {
 
 /// A line that is always the same.
 // requires { length line.now ≤ 72 }
+// ensures { result ≡ line.now }
 fn fixed_line(line: &'static str) -> ErrorLine {
     let mut text = ArrayString::new();
     text.push_str(line);
@@ -53,12 +57,14 @@ fn fixed_line(line: &'static str) -> ErrorLine {
 
 impl ErrorLine {
     /// The bytes.
+    // ensures { result.now ≡ self.now }
     pub fn as_bytes(&self) -> &[u8] {
         self.text.as_bytes()
     }
 }
 
 /// The line of the end that lines had, if it has one; at a limit there is none.
+// ensures { result ≡ Spec.end_line ending }
 pub fn end_line(ending: Option<End>) -> Option<ErrorLine> {
     match ending {
         None | Some(End::Proper) => None,
@@ -68,6 +74,7 @@ pub fn end_line(ending: Option<End>) -> Option<ErrorLine> {
 }
 
 /// The line of the fault for which a file is not converted, unless memory was refused.
+// ensures { IfOk result (Spec.IsLineOf fault) }
 pub fn conversion_line(fault: ConvertFault) -> Result<ErrorLine, Memory> {
     match fault {
         ConvertFault::UnknownInput => Ok(fixed_line("fault: UnknownInput\n")),

@@ -1,3 +1,4 @@
+// Made by tools/plain-rust of crates/fax_tool/src/text/page_line.rt: change that.
 //! The line of a page.
 
 use crate::text::collected::Collected;
@@ -11,6 +12,7 @@ use itoa::Buffer;
 type PageLine = ArrayString<136>;
 
 /// A coding's name, after a blank.
+// ensures { result.now ≡ and_coding coding }
 fn coding_text(coding: Coding) -> &'static str {
     match coding {
         Coding::Mh => " mh",
@@ -20,6 +22,7 @@ fn coding_text(coding: Coding) -> &'static str {
 }
 
 /// A fill order's number.
+// ensures { result ≡ fill_order_of order }
 fn order_number(order: FillOrder) -> u32 {
     match order {
         FillOrder::MsbFirst => 1,
@@ -29,6 +32,8 @@ fn order_number(order: FillOrder) -> u32 {
 
 /// Appends a blank and a fraction: two numbers in decimals with a stroke between them.
 // requires { array_string_len line.old + 22 ≤ 136 }
+// ensures text { line.new.bytes ≡ line.old.bytes ++ and_fraction value }
+// ensures len { array_string_len line.new ≤ array_string_len line.old + 22 }
 fn push_fraction(line: &mut PageLine, value: (u32, u32)) {
     let (over, under) = value;
     let mut digits = Buffer::new();
@@ -38,6 +43,7 @@ fn push_fraction(line: &mut PageLine, value: (u32, u32)) {
 }
 
 /// The line of a page: `page P`, the numbers of its form, and its resolution.
+// ensures { result.bytes ≡ page_line_of page form.now }
 fn page_line(page: u32, form: &PageForm) -> PageLine {
     let mut line = PageLine::new();
     line.push_str("page");
@@ -56,6 +62,8 @@ fn page_line(page: u32, form: &PageForm) -> PageLine {
 }
 
 /// Appends the line of a page.
+// ensures ok { OnOk result (text.new ≡ text.old ++ page_line_of page form.now) }
+// ensures err { OnErr result (text.new ≡ text.old) }
 pub fn put_page_line(text: &mut Collected, page: u32, form: &PageForm) -> Result<(), Memory> {
     text.put(page_line(page, form).as_str())
 }

@@ -1,3 +1,4 @@
+// Made by tools/plain-rust of crates/fax_tool/src/text/remembered.rt: change that.
 //! Texts of numbers, each after a blank, which `itoa` makes once and which are then remembered.
 
 use crate::text::collected::write_bytes;
@@ -43,6 +44,7 @@ impl Model for Texts {}
 /// The text at a place, if it is made.
 #[inline(always)]
 // requires { place < length texts.now }
+// ensures { IfSome result (IsMadeAt texts.now place) }
 fn made_at(texts: &[ShortText], place: usize) -> Option<ShortText> {
     let text = texts[place];
     if text.len > 0 { Some(text) } else { None }
@@ -51,6 +53,9 @@ fn made_at(texts: &[ShortText], place: usize) -> Option<ShortText> {
 /// Writes a blank and a number at a place, and answers where they end.
 #[inline(never)]
 // requires { at + length (and_number number) ≤ length bytes.old }
+// ensures written { take result bytes.new ≡ take at bytes.old ++ and_number number }
+// ensures end { result ≡ at + length (and_number number) }
+// ensures same_len { length bytes.new ≡ length bytes.old }
 fn write_any(bytes: &mut [u8], at: usize, number: u32) -> usize {
     let mut digits = Buffer::new();
     let end = write_bytes(bytes, at, b" ");
@@ -61,6 +66,7 @@ fn write_any(bytes: &mut [u8], at: usize, number: u32) -> usize {
 #[cold]
 #[inline(never)]
 // requires { number < 2048 }
+// ensures { IsText (and_number number) result }
 fn number_text(number: u32) -> ShortText {
     let mut bytes = [0; ROOM];
     let len = write_any(&mut bytes, 0, number);
@@ -72,6 +78,7 @@ fn number_text(number: u32) -> ShortText {
 #[inline(never)]
 // requires first { first < 64 }
 // requires second { second < 64 }
+// ensures { IsText (and_number first ++ and_number second) result }
 fn pair_text(first: u32, second: u32) -> ShortText {
     let mut bytes = [0; ROOM];
     let end = write_any(&mut bytes, 0, first);
@@ -81,6 +88,7 @@ fn pair_text(first: u32, second: u32) -> ShortText {
 
 /// Whether eight numbers are all below a limit.
 #[inline(always)]
+// ensures { IsTrue result → AreBelow limit numbers }
 pub fn are_below(numbers: [u16; 8], limit: u16) -> bool {
     u16x8::from_array(numbers)
         .simd_ge(u16x8::splat(limit))
@@ -91,6 +99,7 @@ pub fn are_below(numbers: [u16; 8], limit: u16) -> bool {
 /// The places of the texts of eight numbers below `PAIRED`, two by two.
 #[inline(always)]
 // requires { AreBelow 64 numbers }
+// ensures { ArePlacesOf numbers result }
 pub fn pair_places(numbers: [u16; 8]) -> [u16; 4] {
     let lanes = u16x8::from_array(numbers);
     let firsts = lanes.swizzle([0, 2, 4, 6]);
@@ -104,6 +113,9 @@ pub fn pair_places(numbers: [u16; 8]) -> [u16; 4] {
 // requires room { at + 8 ≤ length bytes.old }
 // requires eight { length text.bytes ≡ 8 }
 // requires few { text.len ≤ 8 }
+// ensures written { take result bytes.new ≡ take at bytes.old ++ take text.len text.bytes }
+// ensures end { result ≡ at + text.len }
+// ensures same_len { length bytes.new ≡ length bytes.old }
 fn put_short(bytes: &mut [u8], at: usize, text: ShortText) -> usize {
     bytes[at..at + ROOM].copy_from_slice(&text.bytes);
     at + text.len
@@ -123,6 +135,10 @@ impl Texts {
     #[inline(always)]
     // requires below { number < 2048 }
     // requires room { at + 8 ≤ length bytes.old }
+    // ensures written { take result bytes.new ≡ take at bytes.old ++ and_number number }
+    // ensures end { result ≡ at + length (and_number number) }
+    // ensures within { result ≤ at + 6 }
+    // ensures same_len { length bytes.new ≡ length bytes.old }
     pub fn write_remembered(&mut self, bytes: &mut [u8], at: usize, number: u16) -> usize {
         let place = usize::from(number);
         if let Some(text) = made_at(&self.ones, place) {
@@ -137,6 +153,10 @@ impl Texts {
     /// on may be written over.
     #[inline(always)]
     // requires { at + 11 ≤ length bytes.old }
+    // ensures written { take result bytes.new ≡ take at bytes.old ++ and_number number }
+    // ensures end { result ≡ at + length (and_number number) }
+    // ensures within { result ≤ at + 11 }
+    // ensures same_len { length bytes.new ≡ length bytes.old }
     pub fn write_number(&mut self, bytes: &mut [u8], at: usize, number: u32) -> usize {
         if number >= u32::from(NUMBERS) {
             return write_any(bytes, at, number);
@@ -150,6 +170,11 @@ impl Texts {
     #[inline(always)]
     // requires place { place < 4096 }
     // requires room { at + 8 ≤ length bytes.old }
+    // ensures written { (first second : ℕ) → IsPlaceOf first second place
+    //     → take result bytes.new
+    //     ≡ take at bytes.old ++ (and_number first ++ and_number second) }
+    // ensures within { result ≤ at + 8 }
+    // ensures same_len { length bytes.new ≡ length bytes.old }
     pub fn write_pair(&mut self, bytes: &mut [u8], at: usize, place: u16) -> usize {
         if let Some(text) = made_at(&self.pairs, usize::from(place)) {
             return put_short(bytes, at, text);

@@ -1,3 +1,4 @@
+// Made by tools/plain-rust of crates/fax_tool/src/text/row_line.rt: change that.
 //! The line of a row.
 
 use crate::text::collected::{Collected, make_room};
@@ -15,6 +16,9 @@ const RUN_BYTES: usize = 6;
 
 /// Writes the runs that are still to come, each after a blank, and answers where they end.
 // requires { at + 6 * length runs + 11 ≤ length bytes.old }
+// ensures written { take result bytes.new ≡ take at bytes.old ++ flat_map and_number runs.entry }
+// ensures within { result ≤ at + 6 * length runs.entry }
+// ensures same_len { length bytes.new ≡ length bytes.old }
 fn write_rest(bytes: &mut [u8], at: usize, texts: &mut Texts, mut runs: LongestRuns<'_>) -> usize {
     let mut end = at;
     while let Some(run) = runs.next_run() {
@@ -27,6 +31,9 @@ fn write_rest(bytes: &mut [u8], at: usize, texts: &mut Texts, mut runs: LongestR
 #[inline(always)]
 // requires below { AreBelow 64 numbers }
 // requires room { at + 64 ≤ length bytes.old }
+// ensures written { take result bytes.new ≡ take at bytes.old ++ flat_map and_number numbers }
+// ensures within { result ≤ at + 48 }
+// ensures same_len { length bytes.new ≡ length bytes.old }
 fn write_pairs(bytes: &mut [u8], at: usize, texts: &mut Texts, numbers: [u16; 8]) -> usize {
     let places = pair_places(numbers);
     let two = texts.write_pair(bytes, at, places[0]);
@@ -39,6 +46,9 @@ fn write_pairs(bytes: &mut [u8], at: usize, texts: &mut Texts, numbers: [u16; 8]
 #[inline(always)]
 // requires below { AreBelow 2048 numbers }
 // requires room { at + 64 ≤ length bytes.old }
+// ensures written { take result bytes.new ≡ take at bytes.old ++ flat_map and_number numbers }
+// ensures within { result ≤ at + 48 }
+// ensures same_len { length bytes.new ≡ length bytes.old }
 fn write_singly(bytes: &mut [u8], at: usize, texts: &mut Texts, numbers: [u16; 8]) -> usize {
     let one = texts.write_remembered(bytes, at, numbers[0]);
     let two = texts.write_remembered(bytes, one, numbers[1]);
@@ -54,6 +64,11 @@ fn write_singly(bytes: &mut [u8], at: usize, texts: &mut Texts, numbers: [u16; 8
 /// where all of them are short. `None` where one of them is long, and then nothing is written.
 #[inline(always)]
 // requires { at + 64 ≤ length bytes.old }
+// ensures written { IfSome result (λ end. take end bytes.new
+//     ≡ take at bytes.old ++ flat_map and_number numbers) }
+// ensures within { IfSome result (λ end. end ≤ at + 48) }
+// ensures none { IfNone result (bytes.new ≡ bytes.old) }
+// ensures same_len { length bytes.new ≡ length bytes.old }
 fn write_eight(bytes: &mut [u8], at: usize, texts: &mut Texts, numbers: [u16; 8]) -> Option<usize> {
     // All eight are looked at together: a branch for each pair of them is less often foretold.
     if are_below(numbers, PAIRED) {
@@ -67,6 +82,10 @@ fn write_eight(bytes: &mut [u8], at: usize, texts: &mut Texts, numbers: [u16; 8]
 
 /// Writes the runs of a row at a place, each after a blank, and answers where they end.
 // requires { at + 6 * length (runs_of row.now) + 16 ≤ length bytes.old }
+// ensures written { take result bytes.new ≡ take at bytes.old
+//     ++ flat_map and_number (runs_of row.now) }
+// ensures within { result ≤ at + 6 * length (runs_of row.now) }
+// ensures same_len { length bytes.new ≡ length bytes.old }
 fn write_runs(bytes: &mut [u8], at: usize, texts: &mut Texts, row: &Row) -> usize {
     let mut end = at;
     let mut runs = LongestRuns::of_row(row);
@@ -82,6 +101,9 @@ fn write_runs(bytes: &mut [u8], at: usize, texts: &mut Texts, row: &Row) -> usiz
 
 /// Writes the line of a row at a place, and answers where it ends.
 // requires { at + (42 + 6 * length (runs_of row.now)) ≤ length bytes.old }
+// ensures written { take result bytes.new
+//     ≡ take at bytes.old ++ row_line_of place.page place.row (runs_of row.now) }
+// ensures within { result ≤ length bytes.new }
 fn write_line(bytes: &mut [u8], at: usize, texts: &mut Texts, place: Place, row: &Row) -> usize {
     bytes[at] = b'r';
     bytes[at + 1] = b'o';
@@ -94,6 +116,9 @@ fn write_line(bytes: &mut [u8], at: usize, texts: &mut Texts, place: Place, row:
 }
 
 /// Appends the line of a row: `row P R` and the row's runs.
+// ensures ok { OnOk result (text.new ≡ text.old
+//     ++ row_line_of place.page place.row (runs_of row.now)) }
+// ensures err { OnErr result (text.new ≡ text.old) }
 pub fn put_row_line(text: &mut Collected, place: Place, row: &Row) -> Result<(), Memory> {
     let runs = LongestRuns::of_row(row).len();
     let end = text.end;
