@@ -71,6 +71,7 @@ impl<T> Vec<T> {
         &mut self.0
     }
 
+    #[cfg(feature = "program")]
     pub(crate) fn into_items(self) -> std::vec::IntoIter<T> {
         self.0.into_iter()
     }
