@@ -1,5 +1,5 @@
-"""Leaves out of sources that are erased what only proofs had a use for: fields, functions, imports and labels. Parameters
-that are left without a use get a name with an underscore. rustc, with all that it says of what is unused, says nothing."""
+"""Leaves out of sources that are erased what only proofs had a use for: fields, functions, imports and labels.
+Parameters that are left without a use get a name with an underscore. rustc then warns of nothing that is unused."""
 
 from __future__ import annotations
 
@@ -119,7 +119,8 @@ def traits_of(erasers: list[Eraser]) -> set[str]:
 def without_imports(eraser: Eraser, traits: set[str]) -> None:
     """Leaves out each import whose name only what is erased has, or nothing. A trait needs no name to be used."""
     tokens, at = eraser.out, 0
-    uses = [at for at, token in enumerate(tokens) if token.text == "use" and text_at(tokens, step(tokens, at, -1)) != "pub"]
+    uses = [at for at, token in enumerate(tokens)
+            if token.text == "use" and text_at(tokens, step(tokens, at, -1)) != "pub"]
     ends = {at: next(end for end in range(at, len(tokens)) if tokens[end].text == ";") for at in uses}
     inside = {place for at in uses for place in range(at, ends[at])}
     used = {token.text for place, token in enumerate(tokens) if counts(token) and place not in inside}
@@ -188,7 +189,8 @@ def without_labels(eraser: Eraser) -> None:
     for at in reversed(range(len(tokens))):
         colon = step(tokens, at, 1)
         loop = step(tokens, colon, 1)
-        if tokens[at].kind != "lifetime" or text_at(tokens, colon) != ":" or text_at(tokens, loop) not in ("loop", "while", "for"):
+        is_loop = text_at(tokens, colon) == ":" and text_at(tokens, loop) in ("loop", "while", "for")
+        if tokens[at].kind != "lifetime" or not is_loop:
             continue
         begin = next(place for place in range(loop, len(tokens)) if tokens[place].text == "{")
         named = [token for token in tokens[begin : end_of_group(tokens, begin)] if token.text == tokens[at].text]
@@ -197,8 +199,8 @@ def without_labels(eraser: Eraser) -> None:
 
 
 def leave_out(crate: str, erasers: list[Eraser], traits: set[str]) -> None:
-    """Leaves out of the sources of a crate what only its proofs use. These traits are those of the crates below; its own
-    are added."""
+    """Leaves out of the sources of a crate what only its proofs use. The traits are those of the crates below; its
+    own are added."""
     for struct, field in FIELDS.get(crate, {}).items():
         if not [eraser for eraser in erasers if without_field(eraser, struct, field)]:
             raise Refused(f"{crate}: no field {field} of {struct}, which tools/only_proofs.py leaves out")

@@ -12,7 +12,7 @@ from tests.documents.contracts import read
 
 # By their place, what writes them. Of a picture git alone says so, and a licence is copied as it stands.
 MADE = {
-    "plain/*": "tools/plain-rust", "docs/STRUCTS.md": "tests/documents/structs.py",
+    "plain/*": "tools/plain-rust", "licences/*": "tools/licences", "docs/STRUCTS.md": "tests/documents/structs.py",
     "web/faxpages.wasm.js": "tools/build-web",
 }
 LINE = re.compile(r"\W*Made by (\S+?)(?: of (\S+))?: change that\.")
@@ -20,7 +20,8 @@ LINE = re.compile(r"\W*Made by (\S+?)(?: of (\S+))?: change that\.")
 
 def places() -> list[str]:
     """The files of these sources that are made, but for what cargo writes."""
-    found = [os.path.relpath(os.path.join(base, name), TOP) for base, _, names in os.walk(os.path.join(TOP, "plain")) for name in names]
+    found = [os.path.relpath(os.path.join(base, name), TOP) for folder in ("plain", "licences")
+             for base, _, names in os.walk(os.path.join(TOP, folder)) for name in names]
     cargos = ("plain/target/", "plain/Cargo.lock")
     return sorted([name for name in found if not name.startswith(cargos)] + [name for name in MADE if "*" not in name])
 

@@ -12,11 +12,32 @@ debian() {
             'dpkg-deb -f "$1" Depends | grep -qE "^libc6 \(>= 2\.[0-9]+\)$"' - "$1"
     fi
     claim 'the .deb has the digests of its files' has_md5sums "$1" "$room/debian"
+    claim 'the .deb has the licences of what is inside' has_licence "$room/debian" faxpages licences/program.txt
+    claim 'the .deb names what of Debian is inside' names_parts "$(dpkg-deb -f "$1" Built-Using)"
     claim 'each script has a manual page there' leads_to_pages "$room/debian/usr/share/man/man1" 'faxpages-*.1.gz' \
         "$(find recipes -name 'faxpages-*' | wc -l)"
     claim 'the .deb has usual permissions' has_modes "$room/debian/usr"
     claim 'zsh finds its completions there' test -f "$room/debian/usr/share/zsh/vendor-completions/_faxpages"
     ! has lintian 'the .deb is not linted' || claim 'lintian finds no error' lintian --fail-on error "$1"
+}
+
+# Whether the licence of a package is this text, but for its first line where that says what makes it.
+has_licence() {
+    diff "$1/usr/share/doc/$2/copyright" <(sed -e '/^Made by tools/d' \
+        -e 's|in LICENSE-LGPL-2.1\.|in /usr/share/common-licenses/LGPL-2.1.|' "$3")
+}
+
+# Whether a field Built-Using names glibc and gcc in the versions that the program's text has; nothing where the C library
+# is none of Debian's, or not inside.
+names_parts() {
+    printf '%s\n' "$1"
+    if grep -q '^libc .*(Debian GLIBC ' "${ships%/*}/faxpages.txt" && grep -q '^gcc (Debian ' "${ships%/*}/faxpages.txt"; then
+        [[ $1 =~ ^gcc-[0-9]+\ \(=\ ([^\)]+)\),\ glibc\ \(=\ ([^\)]+)\)$ ]] &&
+            grep -qF "(Debian GLIBC ${BASH_REMATCH[2]})" "${ships%/*}/faxpages.txt" &&
+            grep -qF "gcc (Debian ${BASH_REMATCH[1]})" "${ships%/*}/faxpages.txt"
+    else
+        [ -z "$1" ]
+    fi
 }
 
 # Whether a package has the digest of each of its files: has_md5sums PACKAGE TREE.
@@ -98,6 +119,10 @@ debian_library() {
             claim "$name has the version" test "$2" = "$(dpkg-deb -f "$file" Version)"
             claim "$name has usual permissions" "$modes" "$room/$name/usr"
             claim "$name has the digests of its files" has_md5sums "$file" "$room/$name"
+            case $name in
+            lib*) claim "$name has the licences of what is inside" has_licence "$room/$name" "$name" licences/library.txt ;;
+            *) claim "$name has its licence" has_licence "$room/$name" "$name" LICENSE ;;
+            esac
             ! has lintian "$name is not linted" || claim "lintian finds no error in $name" lintian --fail-on error "$file"
         done
     done

@@ -13,6 +13,7 @@ wheel() {
     has python3 'no wheel is made' || return
     claim 'the wheel has the version' test "$(cat VERSION)" = "$(basename "$1" | cut -d - -f 2)"
     claim 'the wheel lists its files' lists_its_files "$1"
+    claim 'the wheel has the licences of what is inside' has_its_licence "$1" licences/library.txt
     if ! python3 -m venv "$room/venv" >/dev/null 2>&1; then
         printf 'SKIPPED: python3 makes no virtual environment, so: the wheel is not installed\n'
         return
@@ -42,6 +43,7 @@ wheel() {
 wheel_of_cups() {
     has python3 'no wheel of CUPS is made' || return
     claim 'the wheel of CUPS lists its files' lists_its_files "$1"
+    claim 'the wheel of CUPS has its licence' has_its_licence "$1" LICENSE
     claim 'the other wheel has nothing of CUPS' bash -c '! python3 -m zipfile -l "$1" | grep -i cups' - "$made"/faxpages-*.whl
     [ -x "$room/venv/bin/pip" ] || return
     claim 'it is installed beside the other' offline "$room/venv/bin/pip" install --no-deps "$1"
@@ -75,6 +77,16 @@ reads_a_damaged_fax() {
     ! (cd "$room/empty" && env -u FAXPAGES_LIBRARY "$1/bin/python3" read.py >said 2>error) && cat "$room/empty/error" &&
         [ "$pages" = 4 ] && [ "$(wc -l <"$room/empty/said")" = 3 ] && tail -n 1 "$room/empty/error" |
         grep -qx 'faxpages.faults.OutOfRow: page 3 row 5: OutOfRow: A vertical mode leads out of the row, or back.'
+}
+
+# Whether the licence of a wheel is this text, but for its first line where that says what makes it.
+has_its_licence() {
+    python3 - "$1" <<'END' | diff - <(sed '/^Made by tools/d' "$2")
+import sys, zipfile
+with zipfile.ZipFile(sys.argv[1]) as wheel:
+    name = next(name for name in wheel.namelist() if name.endswith(".dist-info/LICENSE"))
+    sys.stdout.buffer.write(wheel.read(name))
+END
 }
 
 # Each file of a wheel stands in its list with its digest and its length, and no other.

@@ -43,7 +43,7 @@ def claims(program: str) -> Generator[Claim, None, None]:
         return
     with tempfile.TemporaryDirectory() as room:
         shutil.copytree(f"{TOP}/web", f"{room}/sources/web")
-        shutil.copy(f"{TOP}/LICENSE", f"{room}/sources")
+        shutil.copytree(f"{TOP}/licences", f"{room}/sources/licences")
         os.mkdir(f"{room}/user")
         put(f"{room}/user/package.json", b'{"type": "module"}\n')
         packing = run(f"{room}/sources/web/npm", "npm", "pack", "--silent", "--offline", "--pack-destination", room)
@@ -56,6 +56,8 @@ def claims(program: str) -> Generator[Claim, None, None]:
             name for name in os.listdir(f"{room}/user/node_modules") if not name.startswith(".")], ["faxpages"]
         yield "npm: the module is that of the page", get(
             f"{room}/user/node_modules/faxpages/faxpages.wasm") == module_of_the_page(), True
+        yield "npm: its licence names what is inside the module", get(
+            f"{room}/user/node_modules/faxpages/LICENSE"), get(f"{TOP}/licences/web.txt").partition(b"\n")[2]
         yield from types(f"{room}/user")
         yield from readme_reads(program, f"{room}/user")
         yield from as_the_program(program, f"{room}/user", room)

@@ -1,7 +1,7 @@
 // Makes what the package has beside its texts, of the scripts of the page and of what their comments say of types:
 // faxpages.mjs, faxpages.wasm and faxpages.d.mts. `npm pack` runs it. It needs tsc (node-typescript of Debian).
 import { execFileSync } from "node:child_process";
-import { copyFileSync, readFileSync, writeFileSync } from "node:fs";
+import { readFileSync, writeFileSync } from "node:fs";
 import { dirname, join } from "node:path";
 import { fileURLToPath } from "node:url";
 
@@ -12,7 +12,8 @@ const read = (name) => readFileSync(join(web, name), "utf8").replace(/^"use stri
 writeFileSync(join(here, "faxpages.mjs"), ["library.js", "salvaging.js", "npm/api.js"].map(read).join("\n"));
 const [, packed] = /`\n([^`]*)`/.exec(read("faxpages.wasm.js"));
 writeFileSync(join(here, "faxpages.wasm"), Buffer.from(packed, "base64"));
-copyFileSync(join(web, "..", "LICENSE"), join(here, "LICENSE"));
+const licence = readFileSync(join(web, "..", "licences", "web.txt"), "utf8");
+writeFileSync(join(here, "LICENSE"), licence.slice(licence.indexOf("\n") + 1));
 execFileSync("tsc", ["--allowJs", "--checkJs", "--declaration", "--emitDeclarationOnly", "--strict",
     "--target", "es2022", "--module", "es2022", "--moduleResolution", "node", "--lib", "es2022,dom", "--outDir", here,
     join(here, "faxpages.mjs")], { stdio: ["ignore", 2, 2] });
