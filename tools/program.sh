@@ -2,9 +2,9 @@
 # which set root before.
 #
 # Two folders may have them: shipped/, which the repository brings, and built/, where ./build puts what it built.
-# Beside a program stands faxpages.txt: the version, the kit, the SHA-256 of the object file that rt made, the C library
-# in the program and one SHA-256 over what was taken of it, the SHA-256 of the program, one over what it was built from,
-# and at last the SHA-256 of these lines. Where a machine has no C library to put in, ./build makes a program that takes
+# Beside a program stands faxpages.o.gz, its object file, which has all but the C library, and faxpages.txt: the version, the
+# kit, the SHA-256 of the object file, the C library in the program, its compiler and one SHA-256 over what was taken of
+# them, the SHA-256 of the program, one over what it was built from, and at last the SHA-256 of these lines. Where a machine has no C library to put in, ./build makes a program that takes
 # the machine's when it is run; its text has no line `parts`. Beside a library stands libfaxpages.txt, which says the
 # same of the shared library and of the archive, and has the version of objcopy.
 
