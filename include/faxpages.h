@@ -68,29 +68,56 @@ enum faxpages_status {
  * of a strip's data; and from 201 on of a conversion. */
 enum faxpages_fault_number {
     FAXPAGES_NO_FAULT = 0,
+    /* The file has fewer than eight bytes. */
     FAXPAGES_SHORT_HEADER = 1,
+    /* It begins with neither II nor MM: not a TIFF file. */
     FAXPAGES_BYTE_ORDER = 2,
+    /* The number after the byte order is not 42: not a TIFF file, or BigTIFF. */
     FAXPAGES_MAGIC = 3,
+    /* The header names no page. */
     FAXPAGES_NO_DIRECTORY = 4,
+    /* A page's directory lies outside the file: usually the end of the file is missing. */
     FAXPAGES_DIRECTORY_OUTSIDE = 5,
+    /* A directory is followed by itself or an earlier one. All pages come before the fault. */
     FAXPAGES_DIRECTORY_LOOP = 6,
+    /* The field with this tag is missing. */
     FAXPAGES_MISSING_FIELD = 7,
+    /* The field is neither SHORT nor LONG, has too few values in the file, or is a RowsPerStrip of
+     * 0. */
     FAXPAGES_BAD_FIELD = 8,
+    /* A field has a value that no fax page has. */
     FAXPAGES_UNSUPPORTED = 9,
+    /* The page is empty, wider than 65,535 pels or longer than 1,000,000 rows. */
     FAXPAGES_OUT_OF_LIMITS = 10,
+    /* A strip lies outside the file: usually the end of the file is missing. */
     FAXPAGES_STRIP_OUTSIDE = 11,
+    /* A strip ends before its rows do: the sender was cut off, or the page is shorter than it
+     * says. */
     FAXPAGES_DATA_ENDS = 101,
+    /* The next bits are neither a code nor the beginning of one. */
     FAXPAGES_BAD_CODE = 102,
+    /* An extension of T.4 or T.6, such as uncompressed mode, which is not read. */
     FAXPAGES_EXTENSION = 103,
+    /* A run passes the width of the page. */
     FAXPAGES_RUN_TOO_LONG = 104,
+    /* A vertical mode leads out of the row, or back. */
     FAXPAGES_OUT_OF_ROW = 105,
+    /* No EOL stands before the row, in MH or MR. */
     FAXPAGES_MISSING_EOL = 106,
+    /* Eleven zeros, as in an end mark, stand in place of a row: the page may be shorter than it
+     * says. */
     FAXPAGES_END_MARKER = 107,
+    /* A strip of unknown height has more than 1,000,000 rows. */
     FAXPAGES_TOO_MANY_ROWS = 108,
+    /* The image does not begin as raw PBM does (P4, width, height). */
     FAXPAGES_PBM_BAD_HEADER = 201,
+    /* It is empty, wider than 65,535 pels or longer than 1,000,000 rows. */
     FAXPAGES_PBM_OUT_OF_LIMITS = 202,
+    /* Its rows are not all there. */
     FAXPAGES_PBM_SHORT_RASTER = 203,
+    /* The input is neither raw PBM nor TIFF. */
     FAXPAGES_UNKNOWN_INPUT = 301,
+    /* The output would have more than 268,435,456 bytes, or a TIFF file more than 65,535 pages. */
     FAXPAGES_OUTPUT_TOO_LARGE = 302
 };
 

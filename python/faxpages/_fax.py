@@ -355,7 +355,7 @@ class Fax(Sequence[Page]):
         >>> fax = faxpages.open("samples/three-pages.tif")
         >>> [(row.page, row.number) for row in fax.rows(faxpages.Cursor(1, 2))]
         Traceback (most recent call last):
-        faxpages.faults.DataEnds: page 2 row 1: DataEnds: A strip ends within a row: the sender was cut off, or ...
+        faxpages.faults.DataEnds: page 2 row 1: DataEnds: A strip ends before its rows do: the sender ...
         """
         return self._rows_from(a_cursor(Cursor() if cursor is None else cursor))
 

@@ -129,7 +129,7 @@ def strip(data: ReadableBuffer, width: SupportsIndex = 1728, rows: Optional[Supp
     (1, b'\\x00')
     >>> faxpages.strip(b"\\x80\\x08\\x00\\x80", width=8, rows=2)
     Traceback (most recent call last):
-    faxpages.faults.EndMarker: page 0 row 1: EndMarker: The end of the page stands where a row is due: the page ...
+    faxpages.faults.EndMarker: page 0 row 1: EndMarker: Eleven zeros, as in an end mark, stand in place ...
     """
     if not eols and coding != "mh":
         raise ValueError("eols=False is for mh alone")
@@ -249,7 +249,7 @@ class StripReader:
         >>> reader.close()
         >>> list(reader)
         Traceback (most recent call last):
-        faxpages.faults.DataEnds: page 0 row 0: DataEnds: A strip ends within a row: the sender was cut off, or ...
+        faxpages.faults.DataEnds: page 0 row 0: DataEnds: A strip ends before its rows do: the sender ...
         """
         self._closed = True
         self._read_on()

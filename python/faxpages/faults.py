@@ -12,22 +12,22 @@ _MEANINGS: Dict[str, str] = {
     "Magic": "The number after the byte order is not 42: not a TIFF file, or BigTIFF.",
     "NoDirectory": "The header names no page.",
     "DirectoryOutside": "A page's directory lies outside the file: usually the end of the file is missing.",
-    "DirectoryLoop": "A directory is followed by an earlier one. All pages come before the fault.",
-    "MissingField 273": "A page of tiles.",
+    "DirectoryLoop": "A directory is followed by itself or an earlier one. All pages come before the fault.",
+    "MissingField 273": "No strips are named: usually a page of tiles.",
     "MissingField": "The field with this tag is missing.",
-    "BadField": "The field with this tag has another type than TIFF gives it, no value, or values outside the file.",
-    "Unsupported 259": "Another compression than MH, MR or MMR.",
+    "BadField": "The field is neither SHORT nor LONG, has too few values in the file, or is a RowsPerStrip of 0.",
+    "Unsupported 259": "Another compression than 3 (MH, MR) or 4 (MMR).",
     "Unsupported": "A field has a value that no fax page has.",
     "OutOfLimits": "The page is empty, wider than 65,535 pels or longer than 1,000,000 rows.",
     "StripOutside": "A strip lies outside the file: usually the end of the file is missing.",
-    "DataEnds": "A strip ends within a row: the sender was cut off, or the page has fewer rows than it says.",
-    "BadCode": "No code begins with the bits that are due.",
+    "DataEnds": "A strip ends before its rows do: the sender was cut off, or the page is shorter than it says.",
+    "BadCode": "The next bits are neither a code nor the beginning of one.",
     "Extension": "An extension of T.4 or T.6, such as uncompressed mode, which is not read.",
     "RunTooLong": "A run passes the width of the page.",
     "OutOfRow": "A vertical mode leads out of the row, or back.",
     "MissingEol": "No EOL stands before the row, in MH or MR.",
-    "EndMarker": "The end of the page stands where a row is due: the page has fewer rows than it says.",
-    "TooManyRows": "A strip whose rows nobody counted has more than 1,000,000 of them.",
+    "EndMarker": "Eleven zeros, as in an end mark, stand in place of a row: the page may be shorter than it says.",
+    "TooManyRows": "A strip of unknown height has more than 1,000,000 rows.",
 }
 
 
@@ -39,7 +39,7 @@ class FaxError(Exception):
     ...     faxpages.open("samples/three-pages.tif")[2].packed()
     ... except faxpages.FaxError as error:
     ...     print(error)
-    page 2 row 1: DataEnds: A strip ends within a row: the sender was cut off, or the page has fewer rows than it says.
+    page 2 row 1: DataEnds: A strip ends before its rows do: the sender was cut off, or the page is shorter ...
     """
 
 
@@ -229,13 +229,13 @@ class DirectoryOutside(FileFault):
 
 
 class DirectoryLoop(FileFault):
-    """A directory is followed by an earlier one. All pages come before the fault.
+    """A directory is followed by itself or an earlier one. All pages come before the fault.
 
     >>> damaged = bytearray(open("samples/one-mh-page.tif", "rb").read())
     >>> damaged[206] = 12
     >>> len(faxpages.open(damaged))
     Traceback (most recent call last):
-    faxpages.faults.DirectoryLoop: page 1 row 0: DirectoryLoop: A directory is followed by an earlier one. All ...
+    faxpages.faults.DirectoryLoop: page 1 row 0: DirectoryLoop: A directory is followed by itself or an ...
     """
 
 
@@ -249,14 +249,13 @@ class MissingField(FileFault):
 
 
 class BadField(FileFault):
-    """The field with this tag has another type than TIFF gives it, no value, or values outside the file. Also,
-    RowsPerStrip is 0.
+    """The field is neither SHORT nor LONG, has too few values in the file, or is a RowsPerStrip of 0.
 
     >>> damaged = bytearray(open("samples/one-mh-page.tif", "rb").read())
     >>> damaged[136] = 2
     >>> faxpages.open(damaged).page(0)
     Traceback (most recent call last):
-    faxpages.faults.BadField: page 0 row 0: BadField 279: The field with this tag has another type than TIFF ...
+    faxpages.faults.BadField: page 0 row 0: BadField 279: The field is neither SHORT nor LONG, has too ...
     """
 
 
@@ -267,7 +266,7 @@ class Unsupported(FileFault):
     >>> damaged[70] = 5
     >>> faxpages.open(damaged).page(0)
     Traceback (most recent call last):
-    faxpages.faults.Unsupported: page 0 row 0: Unsupported 259: Another compression than MH, MR or MMR.
+    faxpages.faults.Unsupported: page 0 row 0: Unsupported 259: Another compression than 3 (MH, MR) or 4 (MMR).
     """
 
 
@@ -294,20 +293,20 @@ class StripOutside(FileFault):
 
 
 class DataEnds(StripFault):
-    """A strip ends within a row: the sender was cut off, or the page has fewer rows than it says.
+    """A strip ends before its rows do: the sender was cut off, or the page is shorter than it says.
 
     >>> faxpages.strip(b"\\x80", width=8, rows=9)
     Traceback (most recent call last):
-    faxpages.faults.DataEnds: page 0 row 1: DataEnds: A strip ends within a row: the sender was cut off, or the ...
+    faxpages.faults.DataEnds: page 0 row 1: DataEnds: A strip ends before its rows do: the sender was ...
     """
 
 
 class BadCode(StripFault):
-    """No code begins with the bits that are due.
+    """The next bits are neither a code nor the beginning of one.
 
     >>> faxpages.strip(b"\\x01", width=8)
     Traceback (most recent call last):
-    faxpages.faults.BadCode: page 0 row 0: BadCode: No code begins with the bits that are due.
+    faxpages.faults.BadCode: page 0 row 0: BadCode: The next bits are neither a code nor the beginning of one.
     """
 
 
@@ -348,20 +347,20 @@ class MissingEol(StripFault):
 
 
 class EndMarker(StripFault):
-    """The end of the page stands where a row is due: the page has fewer rows than it says.
+    """Eleven zeros, as in an end mark, stand in place of a row: the page may be shorter than it says.
 
     >>> faxpages.strip(b"\\0\\x10\\x01", width=8, rows=1)
     Traceback (most recent call last):
-    faxpages.faults.EndMarker: page 0 row 0: EndMarker: The end of the page stands where a row is due: the page ...
+    faxpages.faults.EndMarker: page 0 row 0: EndMarker: Eleven zeros, as in an end mark, stand in place ...
     """
 
 
 class TooManyRows(StripFault):
-    """A strip whose rows nobody counted has more than 1,000,000 of them.
+    """A strip of unknown height has more than 1,000,000 rows.
 
     >>> faxpages.strip(bytes([255] * 125001), width=8)
     Traceback (most recent call last):
-    faxpages.faults.TooManyRows: page 0 row 1000000: TooManyRows: A strip whose rows nobody counted has more ...
+    faxpages.faults.TooManyRows: page 0 row 1000000: TooManyRows: A strip of unknown height has more than ...
     """
 
 

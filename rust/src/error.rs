@@ -28,10 +28,10 @@ pub enum Error {
         /// What is wrong with it.
         fault: PbmFault,
     },
-    /// The bytes are neither raw PBM nor TIFF.
+    /// The input is neither raw PBM nor TIFF.
     #[error("the input is neither raw PBM nor TIFF")]
     UnknownInput,
-    /// The output would have more than 268,435,456 bytes, or more than 65,535 pages.
+    /// The output would have more than 268,435,456 bytes, or a TIFF file more than 65,535 pages.
     #[error("the output is too large")]
     OutputTooLarge,
     /// What was given is out of range.
@@ -61,43 +61,43 @@ pub enum Error {
 #[derive(Clone, Copy, Debug, PartialEq, Eq, Hash)]
 #[non_exhaustive]
 pub enum Fault {
-    /// The file is shorter than a header.
+    /// The file has fewer than eight bytes.
     ShortHeader,
-    /// The file begins neither with II nor with MM.
+    /// It begins with neither II nor MM: not a TIFF file.
     ByteOrder,
-    /// The number 42 does not follow.
+    /// The number after the byte order is not 42: not a TIFF file, or BigTIFF.
     Magic,
-    /// The file has no directory.
+    /// The header names no page.
     NoDirectory,
-    /// A directory lies outside the file.
+    /// A page's directory lies outside the file: usually the end of the file is missing.
     DirectoryOutside,
-    /// The chain of directories comes back to one.
+    /// A directory is followed by itself or an earlier one. All pages come before the fault.
     DirectoryLoop,
-    /// The field of this tag is missing.
+    /// The field with this tag is missing.
     MissingField(u32),
-    /// The field of this tag has another type, count or value than it may have.
+    /// The field is neither SHORT nor LONG, has too few values in the file, or is a RowsPerStrip of 0.
     BadField(u32),
-    /// The field of this tag asks for what is not supported, as another compression.
+    /// A field has a value that no fax page has.
     Unsupported(u32),
-    /// The field of this tag has a value beyond the limits.
+    /// The page is empty, wider than 65,535 pels or longer than 1,000,000 rows.
     OutOfLimits(u32),
-    /// A strip lies outside the file.
+    /// A strip lies outside the file: usually the end of the file is missing.
     StripOutside,
-    /// The data end inside a row.
+    /// A strip ends before its rows do: the sender was cut off, or the page is shorter than it says.
     DataEnds,
-    /// There is no such code.
+    /// The next bits are neither a code nor the beginning of one.
     BadCode,
-    /// The code of an extension, as of uncompressed mode.
+    /// An extension of T.4 or T.6, such as uncompressed mode, which is not read.
     Extension,
-    /// A run is longer than any row.
+    /// A run passes the width of the page.
     RunTooLong,
-    /// A run or a mode leads out of the row.
+    /// A vertical mode leads out of the row, or back.
     OutOfRow,
-    /// A row of MR does not begin with an EOL.
+    /// No EOL stands before the row, in MH or MR.
     MissingEol,
-    /// Eleven zeros, as in an end mark, stand where a row was due.
+    /// Eleven zeros, as in an end mark, stand in place of a row: the page may be shorter than it says.
     EndMarker,
-    /// A strip whose rows nobody counted has more than 1,000,000.
+    /// A strip of unknown height has more than 1,000,000 rows.
     TooManyRows,
     /// A fault that this crate does not know, of a later library.
     Unknown {
@@ -112,11 +112,11 @@ pub enum Fault {
 #[derive(Clone, Copy, Debug, PartialEq, Eq, Hash)]
 #[non_exhaustive]
 pub enum PbmFault {
-    /// Its header is none.
+    /// The image does not begin as raw PBM does (P4, width, height).
     BadHeader,
-    /// It has no pel, or more pels in a row, or more rows, than a page may have.
+    /// It is empty, wider than 65,535 pels or longer than 1,000,000 rows.
     OutOfLimits,
-    /// Its raster ends too early.
+    /// Its rows are not all there.
     ShortRaster,
     /// A fault that this crate does not know, of a later library: its number, as in `faxpages.h`.
     Unknown(u32),

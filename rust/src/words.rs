@@ -48,7 +48,7 @@ impl Fault {
     /// What it means, in a sentence, as docs/TROUBLESHOOTING.md has it.
     ///
     /// ```
-    /// assert_eq!(faxpages::Fault::MissingField(273).explanation(), "A page of tiles.");
+    /// assert_eq!(faxpages::Fault::MissingField(273).explanation(), "No strips are named: usually a page of tiles.");
     /// ```
     #[must_use]
     pub const fn explanation(&self) -> &'static str {
@@ -60,26 +60,30 @@ impl Fault {
             Fault::DirectoryOutside => {
                 "A page's directory lies outside the file: usually the end of the file is missing."
             }
-            Fault::DirectoryLoop => "A directory is followed by an earlier one. All pages come before the fault.",
-            Fault::MissingField(273) => "A page of tiles.",
+            Fault::DirectoryLoop => {
+                "A directory is followed by itself or an earlier one. All pages come before the fault."
+            }
+            Fault::MissingField(273) => "No strips are named: usually a page of tiles.",
             Fault::MissingField(_) => "The field with this tag is missing.",
             Fault::BadField(_) => {
-                "The field with this tag has another type than TIFF gives it, no value, or values outside the file."
+                "The field is neither SHORT nor LONG, has too few values in the file, or is a RowsPerStrip of 0."
             }
-            Fault::Unsupported(259) => "Another compression than MH, MR or MMR.",
+            Fault::Unsupported(259) => "Another compression than 3 (MH, MR) or 4 (MMR).",
             Fault::Unsupported(_) => "A field has a value that no fax page has.",
             Fault::OutOfLimits(_) => "The page is empty, wider than 65,535 pels or longer than 1,000,000 rows.",
             Fault::StripOutside => "A strip lies outside the file: usually the end of the file is missing.",
             Fault::DataEnds => {
-                "A strip ends within a row: the sender was cut off, or the page has fewer rows than it says."
+                "A strip ends before its rows do: the sender was cut off, or the page is shorter than it says."
             }
-            Fault::BadCode => "No code begins with the bits that are due.",
+            Fault::BadCode => "The next bits are neither a code nor the beginning of one.",
             Fault::Extension => "An extension of T.4 or T.6, such as uncompressed mode, which is not read.",
             Fault::RunTooLong => "A run passes the width of the page.",
             Fault::OutOfRow => "A vertical mode leads out of the row, or back.",
             Fault::MissingEol => "No EOL stands before the row, in MH or MR.",
-            Fault::EndMarker => "The end of the page stands where a row is due: the page has fewer rows than it says.",
-            Fault::TooManyRows => "A strip whose rows nobody counted has more than 1,000,000 of them.",
+            Fault::EndMarker => {
+                "Eleven zeros, as in an end mark, stand in place of a row: the page may be shorter than it says."
+            }
+            Fault::TooManyRows => "A strip of unknown height has more than 1,000,000 rows.",
             Fault::Unknown { .. } => "A fault of a later version.",
         }
     }

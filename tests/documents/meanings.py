@@ -1,5 +1,6 @@
-"""What a fault and a note mean is one table, that of docs/TROUBLESHOOTING.md: the manual page, the page for a browser
-the docstrings of Python and its sentences, and those of Rust, have its words, wholly; and each name of theirs stands in it."""
+"""What a fault and a note mean is one table, that of docs/TROUBLESHOOTING.md. These have its words, and no other names:
+faxpages(1), the page for a browser (of which the package for Node takes them), Python and Rust by their documentation and
+by the sentences that they return, the header for C, of which faxpages(3) is made, and the module for Go."""
 
 from __future__ import annotations
 
@@ -96,6 +97,46 @@ def in_rust() -> dict[str, str]:
     return {f"{name} {tag.strip('_')}".strip(): means for name, tag, means in pieces}
 
 
+def in_rust_documentation() -> dict[str, str]:
+    """What is written above each fault in the crate for Rust."""
+    text = read("rust", "src", "error.rs")
+    found = {}
+    for kind in ("Fault", "PbmFault", "Error"):
+        body = text.partition(f"pub enum {kind} {{\n")[2].partition("\n}\n")[0]
+        for lines, name in re.findall(r"((?:^    ///.*\n)+)(?:    #.*\n)*^    (\w+)", body, re.M):
+            found[place_of(name, kind == "PbmFault")] = " ".join(re.sub(r"(?m)^ *///", "", lines).split())
+    return found
+
+
+def in_header() -> dict[str, str]:
+    """What is written above each number of a fault in the header."""
+    body = read("include", "faxpages.h").partition("enum faxpages_fault_number {\n")[2].partition("\n};")[0]
+    pieces = re.findall(r"/\*((?:(?!\*/).)*)\*/\s+FAXPAGES_(\w+) = \d+", body, re.S)
+    return {name_of_constant(name): " ".join(re.sub(r"\n +\*", " ", text).split()) for text, name in pieces}
+
+
+def in_go() -> dict[str, str]:
+    """What is written above each number of a fault in the module for Go."""
+    pieces = re.findall(r"((?:^\t//.*\n)+)\t\w+ +FaultNumber = C\.FAXPAGES_(\w+)$", read("go", "errors.go"), re.M)
+    return {name_of_constant(name): " ".join(text.replace("\t//", " ").split()) for text, name in pieces}
+
+
+def name_of_constant(constant: str) -> str:
+    """The name in the table of a number of the header, as PBM_OUT_OF_LIMITS."""
+    name = "".join(part.capitalize() for part in constant.removeprefix("PBM_").split("_"))
+    return place_of(name, constant.startswith("PBM_"))
+
+
+def place_of(name: str, is_image: bool) -> str:
+    """The name in the table of a fault, of a page or of an image."""
+    return f"image {name}" if is_image and name == "OutOfLimits" else name
+
+
+def numbered(known: dict[str, str]) -> set[str]:
+    """The faults that have a number, whatever the tag of their field."""
+    return {name for name in known if " " not in name or name.startswith("image")} - OF_THE_PROGRAM - {"Memory"} - notes()
+
+
 def claims() -> Iterator[tuple[str, bool]]:
     known = table()
     yield "meanings: there is a table", len(known) > 30
@@ -111,8 +152,15 @@ def claims() -> Iterator[tuple[str, bool]]:
         name for name in known if not name.startswith("image")} - OF_THE_PROGRAM
     yield "meanings: Python has a class for each fault", known.keys() & module.keys() == {
         name for name in known if " " not in name} - NO_CLASSES - notes()
+    header, go = in_header(), in_go()
+    above = {name: text for name, text in in_rust_documentation().items() if name in numbered(known)}
+    yield "meanings: faxpages.h has them above its numbers", header.keys() == numbered(known)
+    yield "meanings: the module for Go has them above its numbers", go.keys() == numbered(known)
+    yield "meanings: Rust has them above its faults", above.keys() == numbered(known)
     for name, means in known.items():
         for where, said, is_whole in (("faxpages(1)", manual, False), ("web/texts.js", page, True),
+                                      ("faxpages.h", header, True), ("Go", go, True),
+                                      ("Rust's documentation", above, True),
                                       ("Python", module, False), ("Rust", crate, True),
                                       ("Python's sentences", sentences, True)):
             if name in said:

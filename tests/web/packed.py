@@ -15,6 +15,7 @@ from typing import Generator
 
 from tests import TOP, Claim
 from tests.convert.files import get, put
+from tests.documents import meanings
 from tests.web import bundled, faxes
 
 TYPED = """import { FaxFault, Faxpages } from "faxpages";
@@ -59,6 +60,7 @@ def claims(program: str) -> Generator[Claim, None, None]:
         yield "npm: its licence names what is inside the module", get(
             f"{room}/user/node_modules/faxpages/LICENSE"), get(f"{TOP}/licences/web.txt").partition(b"\n")[2]
         yield from types(f"{room}/user")
+        yield from explains(f"{room}/user")
         yield from readme_reads(program, f"{room}/user")
         yield from as_the_program(program, f"{room}/user", room)
 
@@ -66,6 +68,17 @@ def claims(program: str) -> Generator[Claim, None, None]:
 def module_of_the_page() -> bytes:
     text = get(f"{TOP}/web/faxpages.wasm.js").decode()
     return base64.b64decode(text.partition("`\n")[2].partition("`;")[0])
+
+
+def explains(folder: str) -> Generator[Claim, None, None]:
+    """A fault says in a sentence what it means, as docs/TROUBLESHOOTING.md has it."""
+    names = meanings.in_page().keys() - meanings.notes()
+    known = {name: means for name, means in meanings.table().items() if name in names}
+    lines = [f"console.log(new FaxFault({name!r}, {{ number: 1, tag: {tag or 0}, page: 0, row: 0 }}).explanation);"
+             for name, _, tag in (it.partition(" ") for it in [*known, "Later"])]
+    put(f"{folder}/explains.mjs", "\n".join(['import { FaxFault } from "faxpages";', *lines]).encode())
+    yield "npm: faults explain themselves", (len(known) > 20, run(folder, "node", "explains.mjs")), (
+        True, (0, "\n".join([*known.values(), "A fault of a later version.", ""])))
 
 
 def readme_reads(program: str, folder: str) -> Generator[Claim, None, None]:

@@ -46,6 +46,8 @@ export class FaxFault extends Error {
         /** The name of the fault, such as BadCode. */
         this.fault = name;
         this.tag = tag;
+        /** What it means, in a sentence. */
+        this.explanation = MEANINGS[`${name} ${tag}`] ?? MEANINGS[name] ?? "A fault of a later version.";
         this.page = page;
         this.row = row;
     }
