@@ -80,15 +80,20 @@ public final class Rows {
         if (status == END) {
             return null;
         }
-        return status != FAULT ? "status " + status : "page " + number(TOLD, told, "atPage") + " row "
-                + number(TOLD, told, "atRow") + ": " + nameOf(number(TOLD, told, "number"), arena);
+        if (status != FAULT) {
+            return "status " + status;
+        }
+        int tag = number(TOLD, told, "tag");
+        return "page " + number(TOLD, told, "atPage") + " row " + number(TOLD, told, "atRow") + ": "
+                + nameOf(number(TOLD, told, "number"), arena) + (tag == 0 ? "" : " " + tag);
     }
 
-    /** The name of a fault: no 0 ends it. */
+    /** The name of a fault, which no 0 ends; its number, if the library has no name for it. */
     private String nameOf(int fault, Arena arena) throws Throwable {
-        MemorySegment name = arena.allocate(16);
+        MemorySegment name = arena.allocate(64);
         long len = (long) faultName.invokeExact(fault, name, name.byteSize());
-        return new String(name.asSlice(0, len).toArray(JAVA_BYTE), StandardCharsets.US_ASCII);
+        return len == 0 || len > name.byteSize() ? "Unknown " + fault
+                : new String(name.asSlice(0, len).toArray(JAVA_BYTE), StandardCharsets.US_ASCII);
     }
 
     public static void main(String[] words) throws Throwable {

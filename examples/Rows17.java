@@ -28,7 +28,7 @@ public final class Rows17 {
     private static final int ROWS = 4096, NUMBERS = 1 << 20;
     // Where the members of struct faxpages_row and faxpages_told stand, as docs/STRUCTS.md has them.
     private static final int ROW_BYTES = 24, ROW_LEN = 8, ROW_PAGE = 12, ROW_ROW = 16;
-    private static final int TOLD_BYTES = 40, TOLD_NUMBER = 24, TOLD_AT_PAGE = 32, TOLD_AT_ROW = 36;
+    private static final int TOLD_BYTES = 40, TOLD_NUMBER = 24, TOLD_TAG = 28, TOLD_AT_PAGE = 32, TOLD_AT_ROW = 36;
 
     private final MethodHandle runsFrom;
     private final MethodHandle faultName;
@@ -84,15 +84,20 @@ public final class Rows17 {
         if (status == END) {
             return null;
         }
-        return status != FAULT ? "status " + status : "page " + number(told, TOLD_AT_PAGE) + " row "
-                + number(told, TOLD_AT_ROW) + ": " + nameOf(number(told, TOLD_NUMBER), scope);
+        if (status != FAULT) {
+            return "status " + status;
+        }
+        int tag = number(told, TOLD_TAG);
+        return "page " + number(told, TOLD_AT_PAGE) + " row " + number(told, TOLD_AT_ROW) + ": "
+                + nameOf(number(told, TOLD_NUMBER), scope) + (tag == 0 ? "" : " " + tag);
     }
 
-    /** The name of a fault: no 0 ends it. */
+    /** The name of a fault, which no 0 ends; its number, if the library has no name for it. */
     private String nameOf(int fault, ResourceScope scope) throws Throwable {
-        MemorySegment name = MemorySegment.allocateNative(16, scope);
+        MemorySegment name = MemorySegment.allocateNative(64, scope);
         long len = (long) faultName.invokeExact(fault, name.address(), name.byteSize());
-        return new String(name.asSlice(0, len).toByteArray(), StandardCharsets.US_ASCII);
+        return len == 0 || len > name.byteSize() ? "Unknown " + fault
+                : new String(name.asSlice(0, len).toByteArray(), StandardCharsets.US_ASCII);
     }
 
     public static void main(String[] words) throws Throwable {

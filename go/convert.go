@@ -3,12 +3,12 @@ package faxpages
 // #include <faxpages.h>
 import "C"
 
-// NoteKind says what may trouble other readers of a file. Its String is its name.
+// NoteKind says what may trouble other readers of a file. Its String is its name, or "note 99" of one that has none.
 type NoteKind uint32
 
 func (k NoteKind) String() string {
-	var name [32]C.uint8_t
-	return textOf(name[:C.faxpages_note_name(C.uint32_t(k), &name[0], C.size_t(len(name)))])
+	var name [nameRoom]C.uint8_t
+	return nameOf(name, C.faxpages_note_name(C.uint32_t(k), &name[0], nameRoom), "note", uint32(k))
 }
 
 // Note is a note on a page, or on a strip of it; Strip is -1 where it is on the page's directory.

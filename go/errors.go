@@ -23,7 +23,7 @@ type Fault struct {
 	Page, Row int
 }
 
-// FaultNumber says which fault it is. Its String is the name, as EndMarker.
+// FaultNumber says which fault it is. Its String is the name, as EndMarker, or "fault 99" of one that has none.
 type FaultNumber uint32
 
 // The faults, with what each means.
@@ -79,18 +79,21 @@ const (
 )
 
 func (n FaultNumber) String() string {
-	var name [32]C.uint8_t
-	count := C.faxpages_fault_name(C.uint32_t(n), &name[0], C.size_t(len(name)))
-	if count == 0 {
-		return fmt.Sprintf("fault %d", uint32(n))
-	}
-	return textOf(name[:count])
+	var name [nameRoom]C.uint8_t
+	return nameOf(name, C.faxpages_fault_name(C.uint32_t(n), &name[0], nameRoom), "fault", uint32(n))
 }
 
-func textOf(name []C.uint8_t) string {
-	text := make([]byte, len(name))
-	for i, letter := range name {
-		text[i] = byte(letter)
+// Room for a name, also of a later library.
+const nameRoom = 64
+
+// The name that the library wrote, of so many letters; or what has it, and its number, where a later library has none.
+func nameOf(name [nameRoom]C.uint8_t, count C.size_t, what string, number uint32) string {
+	if count == 0 || count > nameRoom {
+		return fmt.Sprintf("%s %d", what, number)
+	}
+	text := make([]byte, count)
+	for i := range text {
+		text[i] = byte(name[i])
 	}
 	return string(text)
 }
@@ -127,7 +130,7 @@ func errorOf(status C.uint32_t, fault *C.struct_faxpages_fault) error {
 	case C.FAXPAGES_TOO_LARGE:
 		return ErrTooLarge
 	}
-	var name [32]C.uint8_t
-	count := C.faxpages_status_name(status, &name[0], C.size_t(len(name)))
-	return fmt.Errorf("faxpages: %s", textOf(name[:count]))
+	var name [nameRoom]C.uint8_t
+	count := C.faxpages_status_name(status, &name[0], nameRoom)
+	return fmt.Errorf("faxpages: %s", nameOf(name, count, "status", uint32(status)))
 }

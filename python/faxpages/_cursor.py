@@ -6,7 +6,7 @@ import ctypes
 from typing import Any, SupportsIndex, Tuple
 
 from . import _library as _c
-from ._told import number_of
+from ._told import number_of, refusal
 from .faults import NotACursorError
 
 
@@ -41,10 +41,10 @@ class Cursor:
         """
         place, runs, data = _c.Place(), (_c.U32 * _c.RUNS)(), str.encode(text, "utf-8", "surrogatepass")
         status = _c.library.faxpages_place_parse(data, len(data), place, runs, _c.RUNS)
-        if status == _c.MEMORY:
-            raise MemoryError("libfaxpages was refused memory")
-        if status != _c.DONE:
+        if status in (_c.NOT_A_PLACE, _c.NO_ROOM):
             raise NotACursorError(f"not a cursor: {text!r}")
+        if status != _c.DONE:
+            raise refusal(status)
         return cls._of(place, runs)
 
     @classmethod
@@ -95,7 +95,7 @@ class Cursor:
         text = ctypes.create_string_buffer(room)
         status = _c.library.faxpages_place_text(place, runs, _c.RUNS, text, room, ctypes.byref(length))
         if status != _c.DONE:
-            raise MemoryError("libfaxpages was refused memory")
+            raise refusal(status)
         return ctypes.string_at(text, length.value).decode()
 
     def __repr__(self) -> str:

@@ -23,7 +23,7 @@ from ._salvaged import Salvaged, Stretch, salvage_page
 from ._salvaged_rows import salvaged_rows
 from ._source import ReadableBuffer, Source, bytes_of, own
 from ._told import MOST, fraction, number_of, stopped
-from .faults import Fault, OutsideError
+from .faults import Fault, FaxError, OutsideError
 
 # How many forms are read at a time, at most.
 _FORMS = 65536
@@ -344,6 +344,8 @@ class Fax(Sequence[Page]):
         return self._page(number, form, kept.ahead)
 
     def _page(self, number: int, form: _c.Form, ahead: Ahead) -> Page:
+        if form.coding not in _CODINGS:
+            raise FaxError(f"libfaxpages answered with the unknown coding {form.coding}")
         return Page(
             self, number, form.width, form.rows, _CODINGS[form.coding], form.order, bool(form.aligned),
             bool(form.exchanged), form.rows_per_strip, form.strips, fraction(form.x_numerator, form.x_denominator),

@@ -157,6 +157,7 @@ CALLS = {
     "faxpages_place_text": (U32, [ctypes.POINTER(Place)] + NUMBERS * 2 + [ctypes.POINTER(SIZE)]),
     "faxpages_place_parse": (U32, FILE + [ctypes.POINTER(Place)] + NUMBERS),
     "faxpages_fault_name": (SIZE, [U32] + NUMBERS),
+    "faxpages_note_name": (SIZE, [U32] + NUMBERS),
     "faxpages_version": (U32, []),
     "faxpages_version_text": (SIZE, NUMBERS),
 }

@@ -7,15 +7,14 @@ from typing import Optional, Tuple
 
 from . import _library as _c
 from ._source import Source, bytes_of
-from ._told import fault_of, refusal
+from ._told import fault_of, note_name, refusal
 from .faults import Fault
-
-NOTES = {1: "NoEndOfBlock", 2: "ReturnToControl", 3: "DataAfterEnd", 4: "NotT4Choice", 5: "EntriesOutOfOrder"}
 
 
 @dataclass(frozen=True)
 class Note:
-    """What may trouble other readers of a page, or of one of its strips if strip is not None.
+    """What may trouble other readers of a page, or of one of its strips if strip is not None. The name is 'Unknown' where
+    a later library reports a note by a number that it has no name for.
 
     >>> note = faxpages.check("samples/return-to-control.tif").notes[0]
     >>> note
@@ -68,12 +67,12 @@ def check(source: Source) -> Report:
     data, report = bytes_of(source), _c.Report()
     notes = (_c.Note * 64)()
     status = _c.library.faxpages_check(data, len(data), notes, len(notes), report)
-    if status != _c.MEMORY and report.notes > len(notes):
+    if status in (_c.END, _c.FAULT) and report.notes > len(notes):
         notes = (_c.Note * report.notes)()
         status = _c.library.faxpages_check(data, len(data), notes, len(notes), report)
-    if status == _c.MEMORY:
+    if status not in (_c.END, _c.FAULT):
         raise refusal(status)
     found = tuple(
-        Note(note.page, None if note.strip == _c.NO_STRIP else note.strip, note.kind, NOTES[note.kind])
+        Note(note.page, None if note.strip == _c.NO_STRIP else note.strip, note.kind, note_name(note.kind))
         for note in notes[:report.notes])
     return Report(report.pages, report.rows, found, fault_of(report.fault) if status == _c.FAULT else None)

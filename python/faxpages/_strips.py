@@ -9,11 +9,11 @@ from typing import Any, Deque, Iterator, List, NamedTuple, NoReturn, Optional, S
 
 from . import _library as _c
 from ._raster import MOST_ROWS, MOST_WIDTH, Raster
-from ._report import NOTES, Note
+from ._report import Note
 from ._rows import Row
 from ._salvaged import Salvaged, salvaged, salvaged_uncounted
 from ._source import ReadableBuffer, own
-from ._told import choice_of, fault_of, number_of, refusal
+from ._told import choice_of, fault_of, note_name, number_of, refusal
 from ._writing import CODINGS
 from .faults import Fault
 
@@ -353,6 +353,6 @@ def check_strip(data: ReadableBuffer, width: SupportsIndex = 1728, rows: Optiona
     if status not in (_c.END, _c.DATA_END):
         raise refusal(status)
     kinds = report.no_end_of_block, report.return_to_control, report.data_after_end, report.not_t4_choice
-    notes = tuple(Note(0, 0, number, NOTES[number]) for number, noted in enumerate(kinds, 1) if noted)
+    notes = tuple(Note(0, 0, number, note_name(number)) for number, noted in enumerate(kinds, 1) if noted)
     end_mark = not report.no_end_of_block if coding == "mmr" else bool(report.return_to_control)
     return StripReport(report.rows, end_mark, notes, None)

@@ -6,13 +6,15 @@ import ctypes
 import functools
 import operator
 from fractions import Fraction
-from typing import Mapping, Optional, SupportsIndex
+from typing import Any, Mapping, Optional, SupportsIndex
 
 from . import _library as _c
 from .faults import BY_NUMBER, Fault, FaxError, OutsideError
 
 # The greatest number of the library.
 MOST = 0xFFFFFFFF
+# Room for the name of a fault or of a note, also of a later library.
+_NAME = 64
 
 # Pages of a file have few resolutions.
 fraction = functools.lru_cache(maxsize=64)(Fraction)
@@ -34,11 +36,22 @@ def choice_of(name: str, value: str, choices: Mapping[str, int]) -> int:
     return choices[value]
 
 
+def _named(call: Any, number: int) -> str:
+    """The name that a call of the library has for a number, or an empty text."""
+    name = ctypes.create_string_buffer(_NAME)
+    length: int = call(number, name, _NAME)
+    return name.raw[:length].decode() if length <= _NAME else ""
+
+
 def name_of(number: int) -> str:
-    """The name of a fault by its number."""
-    name = ctypes.create_string_buffer(16)
-    length = _c.library.faxpages_fault_name(number, name, 16)
-    return name.raw[:length].decode()
+    """The name of a fault by its number: 'Unknown 99', where the library has none."""
+    return _named(_c.library.faxpages_fault_name, number) or f"Unknown {number}"
+
+
+@functools.lru_cache(maxsize=64)
+def note_name(number: int) -> str:
+    """The name of a note by its number: 'Unknown', where the library has none."""
+    return _named(_c.library.faxpages_note_name, number) or "Unknown"
 
 
 def fault_of(fault: _c.Fault) -> Fault:
