@@ -51,6 +51,7 @@ static int failed(const char *what, uint32_t status, const struct faxpages_fault
     int cause_len = status == FAXPAGES_FAULT ? (int)faxpages_fault_name(fault->number, cause, sizeof cause) : 0;
     fprintf(stderr, "%s: %.*s", what, len, (char *)name);
     if (cause_len) fprintf(stderr, " at row %u: %.*s", (unsigned)fault->row, cause_len, (char *)cause);
+    if (cause_len && fault->tag) fprintf(stderr, " %u", (unsigned)fault->tag);
     fprintf(stderr, "\n");
     return 0;
 }

@@ -39,7 +39,9 @@ static void say(uint32_t status, const struct faxpages_fault *fault) {
     uint8_t name[17];
     int len = (int)(status == FAXPAGES_FAULT ? faxpages_fault_name(fault->number, name, sizeof name)
                                              : faxpages_status_name(status, name, sizeof name));
-    fprintf(stderr, "page %" PRIu32 " row %" PRIu32 ": %.*s\n", fault->page, fault->row, len, (char *)name);
+    fprintf(stderr, "page %" PRIu32 " row %" PRIu32 ": %.*s", fault->page, fault->row, len, (char *)name);
+    if (status == FAXPAGES_FAULT && fault->tag) fprintf(stderr, " %" PRIu32, fault->tag);
+    fprintf(stderr, "\n");
 }
 
 /* Each second run is black. */
@@ -83,8 +85,10 @@ int main(int count, char **words) {
             black += black_pels(out + rows[i].at, rows[i].len);
         }
     } while (status == FAXPAGES_DONE || status == FAXPAGES_NO_ROOM);
-    if (status == FAXPAGES_END) print_page(file, len, page, black);
-    else say(status, &told.fault);
+    /* A fault of a later page leaves this one whole. */
+    if (status == FAXPAGES_END || (status == FAXPAGES_FAULT && told.fault.page > page))
+        print_page(file, len, page, black);
+    if (status != FAXPAGES_END) say(status, &told.fault);
     free(file);
     return status != FAXPAGES_END;
 }

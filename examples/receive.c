@@ -81,8 +81,8 @@ static void fill_lost(const struct faxpages_lost *stretch) {
     lost += stretch->rows;
 }
 
-/* Reads what is left of the page, and answers how many rows it has. */
-static uint32_t read_page(int ended) {
+/* Reads what is left of the page, and answers whether there was memory; `count` is then how many rows it has. */
+static int read_page(int ended, uint32_t *count) {
     static struct faxpages_lost stretches[(MOST_ROWS + 1) / 2];
     struct faxpages_strip form = {WIDTH, 0, 2, 2, 0};
     struct faxpages_told told;
@@ -93,14 +93,16 @@ static uint32_t read_page(int ended) {
         fprintf(stderr, "page %u: no more than %u rows are taken\n", (unsigned)written.added, (unsigned)MOST_ROWS);
         is_cut = 1;
         form.rows = MOST_ROWS;
-        faxpages_salvage_strip(data, bytes, &form, raster, sizeof raster, STRIDE, stretches,
-                               sizeof stretches / sizeof *stretches, &told);
+        status = faxpages_salvage_strip(data, bytes, &form, raster, sizeof raster, STRIDE, stretches,
+                                        sizeof stretches / sizeof *stretches, &told);
     }
+    if (status == FAXPAGES_MEMORY) return 0;
     /* Where the data end within a row, nobody knows whether it is one. */
     if (!ended && told.used && stretches[told.used - 1].row + stretches[told.used - 1].rows == told.count)
         told.count = stretches[--told.used].row;
     for (i = 0; i < told.used; i++) fill_lost(stretches + i);
-    return told.count;
+    *count = told.count;
+    return 1;
 }
 
 /* Leaves the page out, so that the next one begins. Zeros before its first EOL are fill. */
@@ -141,7 +143,7 @@ static int receive_pages(void) {
     for (file = malloc(room); file && ended; begin_next_page()) {
         ended = receive();
         if (!ended && written.added && is_fill()) return 1;
-        count = read_page(ended);
+        if (!read_page(ended, &count)) return 0;
         if (!ended && (count || written.added)) {
             fprintf(stderr, "%s after %u rows, without a return to control: rows may be missing\n",
                     len + PIECE > MOST_BYTES ? "4 MB are taken" : "the data end", (unsigned)count);
@@ -167,7 +169,7 @@ int main(int count, char **words) {
         return 2;
     }
     has_memory = receive_pages();
-    if (!has_memory) fprintf(stderr, "there is no memory for more pages\n");
+    if (!has_memory) fprintf(stderr, "there is no memory for page %u or any after it\n", (unsigned)written.added);
     if (lost) fprintf(stderr, "%u of %u rows are missing\n", (unsigned)lost, (unsigned)rows);
     if (!written.added || !write_file(words[1])) {
         fprintf(stderr, "no page is written\n");

@@ -12,7 +12,7 @@ class Known {
         this.others = 0;
         /** @type {Map<number, LostRows>} */
         this.lost = new Map();
-        /** @type {Map<number, { strip: number, name: string }[]>} */
+        /** @type {Map<number, { strip: number, kind: number, name: string }[]>} */
         this.notes = new Map();
         this.state = "waits";
         this.pages = 0;
@@ -265,11 +265,11 @@ class Fax extends Known {
         for (let at = 0; at < notes.length; at += 3) {
             const [page, strip, kind] = notes.subarray(at, at + 3);
             const all = this.notes.get(page) ?? [];
-            all.push({ strip, name: kinds[kind] });
+            all.push({ strip, kind, name: kinds.get(kind) });
             this.notes.set(page, all);
         }
         this.isLong = false;
-        this.report = { pages, rows, count, fault: fault.number ? { ...fault, name } : null, kinds };
+        this.report = { pages, rows, count, fault: fault.number ? { ...fault, name } : null };
         this.move("done");
     }
 
@@ -345,9 +345,10 @@ class Fax extends Known {
     findingsOf(page, most) {
         const refused = this.refused.get(page);
         const texts = TEXTS.findings;
-        const notes = (this.notes.get(page) ?? []).map(({ strip, name }) => {
+        const notes = (this.notes.get(page) ?? []).map(({ strip, kind, name }) => {
             const isStrip = strip !== Library.NO_STRIP;
-            return { page, row: isStrip ? strip * (this.form(page)?.rowsOfStrip ?? 0) : 0, name, tag: 0,
+            return { page, row: isStrip ? strip * (this.form(page)?.rowsOfStrip ?? 0) : 0, tag: 0,
+                name: isKnownNote(name) ? name : `N${kind} ${name}`,
                 kind: /** @type {"note"} */ ("note"),
                 head: isStrip ? say(texts.strip, sayPage(page), sayPage(strip)) : say(texts.directory, sayPage(page)) };
         });
@@ -453,7 +454,7 @@ class Fax extends Known {
         const said = `${this.file.name}\n${this.verdict()}${unseen}\n${TEXTS.findings.fromZero}`;
         const head = `${said}\n\n${lines.splice(0).join("\n")}\n`;
         const notes = [...this.notes].sort(([one], [other]) => one - other).map(([page, all]) => all.map(
-            ({ strip, name }) => FaxWorker.noteLine(page, strip, this.report.kinds.indexOf(name), name)).join(""));
+            ({ strip, kind, name }) => FaxWorker.noteLine(page, strip, kind, name)).join(""));
         if (this.report) {
             const { pages, rows, fault } = this.report;
             lines.push(`pages ${pages} rows ${rows}`, ...(fault ? [faultLine(fault, fault.name)] : []));

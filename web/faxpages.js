@@ -371,8 +371,7 @@ class App {
     findingItem({ page, row, head, name, tag, kind }) {
         const item = document.createElement("li");
         const button = document.createElement("button");
-        const notes = /** @type {Record<string, string[]>} */ (TEXTS.notes);
-        const [means, does] = kind === "note" ? notes[name] : sayOfFault(name, tag);
+        const [means, does] = kind === "note" ? sayOfNote(name) : sayOfFault(name, tag);
         item.className = kind;
         button.type = "button";
         button.dataset.page = String(page);

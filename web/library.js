@@ -133,7 +133,10 @@ class Library {
     check(room) {
         const notes = this.room("notes", 12 * room);
         const report = this.room("report", 40);
-        this.calls.faxpages_check(this.file, this.length, notes, room, report);
+        const status = this.calls.faxpages_check(this.file, this.length, notes, room, report);
+        if (status !== Library.END && status !== Library.FAULT) {
+            throw Library.refusal(status);
+        }
         const [pages, pagesHigh, rows, rowsHigh, count] = this.numbers(report, 5);
         return {
             pages: pages + 4294967296 * pagesHigh,
@@ -215,11 +218,19 @@ class Library {
         return new Left(this, form, raster, this.numbers(lost, 3 * count).slice());
     }
 
-    /** The name of a fault, or of a note.
+    /** The name of a fault, or of a note. Where a later library has none, a fault has its number in its name.
      * @param {"fault" | "note"} kind @param {number} number */
     name(kind, number) {
         const length = this.calls[`faxpages_${kind}_name`](number, this.out, 64);
-        return String.fromCharCode(...this.bytes(this.out, length));
+        const name = length <= 64 ? String.fromCharCode(...this.bytes(this.out, length)) : "";
+        return name || (kind === "note" ? "Unknown" : `Unknown ${number}`);
+    }
+
+    /** Why a call has no answer: memory was refused, or a status that it may not have, as a later library may.
+     * @param {number} status */
+    static refusal(status) {
+        return status === Library.MEMORY ? new RangeError("memory was refused")
+            : new Error(`the library answered with status ${status}`);
     }
 }
 

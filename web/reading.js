@@ -50,9 +50,11 @@ class Reading {
                 const kind = next === 0 ? this.kinds.ofFile(name) : null;
                 this.send({ event: "listed", pages: next, fault: told.fault, name, kind });
                 return next;
-            } else if (told.status !== Library.DONE) {
+            } else if (told.status === Library.END || told.status === Library.FAULT) {
                 this.send({ event: "listed", pages: next, fault: null });
                 return next;
+            } else if (told.status !== Library.DONE) {
+                throw Library.refusal(told.status);
             }
             await this.pause();
         }
@@ -84,8 +86,12 @@ class Reading {
         }
     }
 
-    /** @param {number} status */
+    /** Whether more may follow what was read; not where all was, and where nothing can it is an error.
+     * @param {number} status */
     static goesOn(status) {
+        if (![Library.DONE, Library.NO_ROOM, Library.END, Library.OUTSIDE].includes(status)) {
+            throw Library.refusal(status);
+        }
         return status === Library.DONE || status === Library.NO_ROOM;
     }
 

@@ -144,6 +144,11 @@ const TEXTS = {
             "If a receiver refuses it: save the fax as TIFF."],
         EntriesOutOfOrder: ["A directory's tags do not ascend.", "If a reader misses fields: save the fax as TIFF."],
     },
+    /** The same of what a later version of the library may find. */
+    later: {
+        fault: ["A fault of a later version.", "Open it with a later version of this page."],
+        note: ["A note of a later version.", "Open it with a later version of this page."],
+    },
     /** What is no fax that is read here, and what reads it. */
     kinds: {
         pdf: ["a PDF", "A PDF viewer opens it."],
@@ -282,7 +287,20 @@ function sayPage(page) {
  * @param {string} name @param {number} [tag] @returns {string[]} */
 function sayOfFault(name, tag) {
     const faults = /** @type {Record<string, string[]>} */ (TEXTS.faults);
-    return faults[`${name}${tag}`] ?? faults[name] ?? [name, ""];
+    return faults[`${name}${tag}`] ?? faults[name] ?? TEXTS.later.fault;
+}
+
+/** Whether there are words for a note of this name.
+ * @param {string} name */
+function isKnownNote(name) {
+    return name in TEXTS.notes;
+}
+
+/** The same of a note.
+ * @param {string} name @returns {string[]} */
+function sayOfNote(name) {
+    const notes = /** @type {Record<string, string[]>} */ (TEXTS.notes);
+    return notes[name] ?? TEXTS.later.note;
 }
 
 /** What something is that is no fax, and what reads it.

@@ -8,6 +8,9 @@
  *     isFine: boolean }} Bare
  */
 class Importing {
+    /** How a call that reads bare data may end. */
+    static STATUSES = [Library.DONE, Library.END, Library.FAULT, Library.OUTSIDE, Library.DATA_END];
+
     /** @param {WebAssembly.Module} module @param {Library} source @param {() => Promise<void>} pause */
     constructor(module, source, pause) {
         this.module = module;
@@ -28,6 +31,9 @@ class Importing {
         const { status, at, length, image, fault } = this.source.convert(Library.MMR);
         if (status === Library.DONE) {
             return { library: this.handOver(at, length), told: null };
+        }
+        if (status !== Library.FAULT && status !== Library.MEMORY) {
+            throw Library.refusal(status);
         }
         const name = status === Library.FAULT ? this.source.name("fault", fault.number) : "Memory";
         return { library: null, told: { image, name } };
@@ -74,6 +80,9 @@ class Importing {
             Importing.prepare(cursor, bare);
             const most = bare.rows && !isAlone ? Math.min(room, Math.max(1, bare.rows - rows) * stride) : room;
             const told = source.readStrip(source.file, source.length, form, cursor, source.out, most, stride);
+            if (!Importing.STATUSES.includes(told.status)) {
+                throw Library.refusal(told.status);
+            }
             if (told.count > 0) {
                 pieces.push(source.bytes(source.out, told.count * stride).slice());
                 rows += told.count;
@@ -293,19 +302,27 @@ class FaxWorker {
     notes() {
         const { notes, count, pages, rows, fault } = this.library.check(FaxWorker.NOTES);
         const name = fault.number ? this.library.name("fault", fault.number) : "";
-        const kinds = [0, 1, 2, 3, 4, 5].map((kind) => this.library.name("note", kind));
+        const kinds = this.namesOf(notes);
         this.send({ event: "checked", notes, count, pages, rows, fault, name, kinds });
+    }
+
+    /** The names of the kinds of notes, by their numbers.
+     * @param {Uint32Array} notes */
+    namesOf(notes) {
+        const kinds = new Set(notes.filter((_, at) => at % 3 === 2));
+        return new Map([...kinds].map((kind) => [kind, this.library.name("note", kind)]));
     }
 
     /** All notes as lines, however many there are. */
     noteLines() {
         const { notes } = this.library.check(this.library.check(0).count);
-        const names = [0, 1, 2, 3, 4, 5].map((kind) => this.library.name("note", kind));
+        const names = this.namesOf(notes);
         const parts = [];
         for (let at = 0; at < notes.length; at += 30000) {
             let text = "";
             for (let next = at; next < Math.min(notes.length, at + 30000); next += 3) {
-                text += FaxWorker.noteLine(notes[next], notes[next + 1], notes[next + 2], names[notes[next + 2]]);
+                const [page, strip, kind] = notes.subarray(next, next + 3);
+                text += FaxWorker.noteLine(page, strip, kind, names.get(kind) ?? "");
             }
             parts.push(text);
         }

@@ -16,7 +16,7 @@ from typing import Generator
 from tests import TOP, Claim
 from tests.convert.files import get, put
 from tests.documents import meanings
-from tests.web import bundled, faxes
+from tests.web import bundled, faxes, later
 
 TYPED = """import { FaxFault, Faxpages } from "faxpages";
 const faxpages: Faxpages = await Faxpages.load(new Uint8Array(8));
@@ -61,6 +61,7 @@ def claims(program: str) -> Generator[Claim, None, None]:
             f"{room}/user/node_modules/faxpages/LICENSE"), get(f"{TOP}/licences/web.txt").partition(b"\n")[2]
         yield from types(f"{room}/user")
         yield from explains(f"{room}/user")
+        yield from later.in_node(f"{room}/user", run)
         yield from readme_reads(program, f"{room}/user")
         yield from as_the_program(program, f"{room}/user", room)
 

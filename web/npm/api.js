@@ -22,8 +22,8 @@
  * @typedef {object} Note
  * @property {number} page from 0
  * @property {number | null} strip from 0; none where the note is on the page's directory
- * @property {number} number 1 to 5
- * @property {string} name
+ * @property {number} number 1 to 5, or another one of a later library
+ * @property {string} name "Unknown" where a later library has none
  *
  * @typedef {object} Lost
  * @property {number} row the first, from 0
@@ -136,11 +136,11 @@ export class Faxpages {
         }
     }
 
-    /** None where a call came to an end; memory that was refused is an error.
+    /** None where a call came to an end; memory that was refused is an error, and so is a status that is not known.
      * @param {number} status */
     static ended(status) {
-        if (status === Library.MEMORY) {
-            throw new RangeError("memory was refused");
+        if (status !== Library.END) {
+            throw Library.refusal(status);
         }
         return null;
     }
@@ -228,9 +228,11 @@ export class Faxpages {
             const isOther = fault.number > Faxpages.OF_FILES && !isImage;
             throw Faxpages.faultOf(library, fault, isImage ? ` image ${image}` : isOther ? "" : undefined);
         }
-        Faxpages.ended(status);
-        if (status !== Library.DONE) {
+        if (status === Library.NO_ROOM) {
             throw new RangeError("the output would be too large");
+        }
+        if (status !== Library.DONE) {
+            throw Library.refusal(status);
         }
         return library.bytes(at, length).slice();
     }
