@@ -795,7 +795,7 @@ mod tests {
         ] {
             assert_eq!(form_of(0, &form), Err(Error::Unknown { what, number: 4 }));
         }
-        assert_eq!((NoteKind::of(6), NoteKind::of(6).to_string()), (NoteKind::Unknown(6), "N6 Unknown".to_string()));
+        assert_eq!((NoteKind::of(99), NoteKind::of(99).to_string()), (NoteKind::Unknown(99), "N99 Unknown".to_string()));
         assert!((1..=6).all(|number| NoteKind::of(number).number() == number));
     }
 

@@ -9,7 +9,7 @@ from typing import Iterator
 
 from tests import Claim
 from tests import TOP
-from tests.documents import words
+from tests.documents import structs, words
 from tests.documents.contracts import read
 from tests.finding import found
 
@@ -26,10 +26,19 @@ def there() -> dict[str, set[str]]:
         "option": {f"{command} {option}" for command, options in grammar.items() for option, _ in options},
         "call": set(re.findall(r"\b(faxpages_\w+)\(", header)),
         "number": {f"{name} {number}" for name, number in re.findall(r"\b(FAXPAGES_[A-Z0-9_]+) = (\d+)", header)},
+        "struct": set(lay_out()),
         "python": set(re.findall(r'"(\w+)"', listed)),
         "rust": set(re.findall(r"^ *pub (?:const )?(?:fn|struct|enum|type|mod|trait) (\w+)", rust, re.M)),
         "script": {os.path.basename(name) for name in glob.glob(os.path.join(TOP, "recipes/faxpages-*"))},
     }
+
+
+def lay_out() -> Iterator[str]:
+    """Where each member of each struct of the header lies, and how many bytes a struct has: in 64 bits, and in 32."""
+    for struct in structs.structs():
+        yield "{} {} {}".format(struct.name, *struct.sizes)
+        for member in struct.members:
+            yield "{}.{} {} {}".format(struct.name, member.name, *member.offsets)
 
 
 def promised() -> Iterator[tuple[str, str]]:
@@ -56,6 +65,8 @@ def claims() -> Iterator[tuple[str, bool]]:
         if kind in ("command", "option", "script"):
             word = f"`{name.split(' ')[-1]}`"
             yield f"tests/README.md has {word}", any(word in promise for promise, _, _ in rows)
+    lines = {name for kind, name in promised() if kind == "struct"}
+    yield f"each struct of the header is promised, as it lies: {sorted(now['struct'] - lines)}", now["struct"] == lines
     yield "tests/README.md has a table", len(rows) > 40
     for promise, file, text in rows:
         there_is = os.path.isfile(os.path.join(TOP, file))

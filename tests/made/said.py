@@ -59,7 +59,9 @@ def by_python() -> Iterator[Claim]:
         data = file.read()
     names = ["N3 DataAfterEnd", "N6 DataAfterMark"]
     yield "Python: notes of a file", [f"N{it.number} {it.name}" for it in faxpages.check(data).notes], names
-    yield "Python: notes of a strip", [f"N{it.number} {it.name}" for it in faxpages.check_strip(MARKED, 8, 1).notes], names
+    # The struct of a strip's report stays as it is within version 1, and has no place for a new note.
+    of_strip = [f"N{it.number} {it.name}" for it in faxpages.check_strip(MARKED, 8, 1).notes]
+    yield "Python: notes of a strip", of_strip, names[:1]
     halves = faxpages.convert(IMAGE, "mh", **MADE)
     yield "Python: convert", halves, faxpages.convert(IMAGE, "mh", strip=3)
     yield "Python: convert of a fax", faxpages.Fax(halves).convert("mmr", **MADE), faxpages.convert(IMAGE, "mmr", strip=3)
