@@ -41,8 +41,8 @@
 #include <stdint.h>
 
 /* The version of this header, as text and as a number; faxpages_version tells the library's. */
-#define FAXPAGES_VERSION "1.10.2"
-#define FAXPAGES_VERSION_NUMBER 11002
+#define FAXPAGES_VERSION "1.11.0"
+#define FAXPAGES_VERSION_NUMBER 11100
 
 #ifdef __cplusplus
 extern "C" {
@@ -270,8 +270,9 @@ struct faxpages_lost {
 /* Writes what is left of a page that may be damaged into a raster: each row that is found as
  * faxpages_page has it, and zeros, which are white, for each row that is lost. In MH and MR a row
  * is found if it can be read and an EOL follows it, or nothing but zeros, or it is the last one of
- * its strip; after a row that is lost the next one is due at the next EOL. In MMR all rows of a
- * strip after one that cannot be read are lost. No row is copied or guessed; which number a row
+ * its strip; after a row that is lost the next one is due at the next EOL. A two-dimensional row
+ * after a lost one is lost too, with that one's fault. In MMR all rows of a strip after one that
+ * cannot be read are lost. No row is copied or guessed; which number a row
  * has after a lost one is a count of EOLs. `lost` says which rows are lost, in order: a stretch of
  * them ends where a row is found or the page ends, and has the fault of its first row, which is
  * STRIP_OUTSIDE or one of a strip's data.
@@ -400,7 +401,7 @@ uint32_t faxpages_strip_part(const uint8_t *strip, size_t strip_len,
  * last one too an EOL or zeros have to follow it, but where it is row 1,000,000. MEMORY comes before
  * NO_ROOM, and where the raster has no room, `row` of `told` is how many rows there are: 3 MB of data
  * can have 1,000,000. In place of DONE it is told how they end, as faxpages_strip_rows has it: END,
- * DATA_END, or FAULT. */
+ * DATA_END, or FAULT, whose row is the lost one, the last; for TOO_MANY_ROWS it is 1,000,000. */
 uint32_t faxpages_salvage_strip(const uint8_t *strip, size_t strip_len,
                                 const struct faxpages_strip *form, uint8_t *out, size_t out_room,
                                 size_t stride, struct faxpages_lost *lost, size_t lost_room,

@@ -30,3 +30,5 @@ pub mod PairLemmas
 pub mod VerticalLemmas
 pub mod LookUpLemmas
 pub mod LookedAtLemmas
+pub mod CodeLemmas
+pub mod StepsLemmas

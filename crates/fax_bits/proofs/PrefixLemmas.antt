@@ -1,5 +1,5 @@
 -- A table that keeps its rules is read in one way.
-use Rattle.std.proofs.Common.{rules, ◌≡◌, List, [], ◌∷◌, ◌++◌, length, length-append, Bool, refl, ap, sym, ◌∙◌, arith}
+use Rattle.std.proofs.Common.{◌≡◌, List, [], ◌∷◌, ◌++◌, length, length-append, Bool, refl, ap, sym, ◌∙◌, arith}
 use Rattle.std.proofs.Common.{inl, inr}
 use Rattle.std.proofs.lemmas.Grind.{common_steps}
 use Rattle.std.specs.Prelude.{◌⊎◌, Contains}
@@ -8,9 +8,8 @@ use Rattle.std.proofs.lemmas.Option.{slice_get_read}
 use Rattle.fax_bits.specs.declared.codes.CodeEntry.{CodeEntry}
 use Rattle.fax_bits.specs.Codes.{bits_of, Takes}
 use Rattle.fax_bits.specs.views.Codes.{HasShortCodes, IsPrefixFree}
-use Rattle.fax_bits.specs.laws.Codes.{HasOneAnswer, TakesBits, ReadsOneWay}
+use Rattle.fax_bits.specs.laws.Codes.{HasOneAnswer, TakesBits}
 use Rattle.fax_bits.proofs.CodeBitsLemmas.{length-code_bits}
-use Rattle.fax_bits.proofs.ReadingLemmas.{takes_or_fails, taken_has_no_fault, has_one_fault}
 
 -- of two codes that begin the same bits one begins the other
 one_starts_the_other : (a b r s : List Bool) → a ++ r ≡ b ++ s
@@ -58,15 +57,3 @@ takes_bits table short b meaning rest takes =
       ap length
           takes.spelled,
     )
-
--- a table is read in one way
-pub reads_one_way : {M : Type 0} (table : List (CodeEntry M)) → HasShortCodes table → IsPrefixFree table
-    → ReadsOneWay table
-reads_one_way table short free = search (
-  rules,
-  takes_bits,
-  takes_one,
-  takes_or_fails,
-  taken_has_no_fault,
-  has_one_fault,
-)

@@ -6,7 +6,9 @@ use Rattle.std.proofs.Math.Seq.{take-append-add}
 use Rattle.std.proofs.lemmas.List.{take-append-drop}
 use Rattle.fax_bits.specs.declared.codes.CodeEntry.{CodeEntry}
 use Rattle.fax_bits.specs.Bits.{bits_number, code_bits}
-use Rattle.fax_bits.specs.Codes.{bits_of, HasNoCode, IsCutShort, Takes}
+use Rattle.fax_bits.specs.Codes.{bits_of, HasNoCode, Takes}
+use Rattle.std.specs.Prelude.{Contains}
+use Rattle.fax_bits.proofs.ReadingLemmas.{IsCutBy}
 use Rattle.fax_bits.specs.views.Codes.{HasCodeAhead, HasShortCodes}
 use Rattle.fax_bits.proofs.CodeBitsLemmas.{length-code_bits, ahead_fits}
 use Rattle.fax_bits.proofs.NumberLemmas.{code_bits-number}
@@ -65,15 +67,13 @@ none_begins table {left = left} {n = n} short within all next none entry here ah
 
 -- 13 bits end within no code
 pub not_cut : {M : Type 0} (table : List (CodeEntry M)) (left : List Bool) → HasShortCodes table → 13 ≤ length left
-    → IsCutShort table left
-    → ⊥
-not_cut table left short long cut =
+    → (entry : CodeEntry M) → Contains table entry → IsCutBy (bits_of entry) left → ⊥
+not_cut table left short long entry listed cut =
     omega (
       arith,
       long,
-      (short cut.0 cut.1).1,
-      length-code_bits cut.0.len cut.0.code,
-      length-append left (cut.2.0 ∷ cut.2.1),
-      ap length
-          cut.2.2,
+      (short entry listed).1,
+      length-code_bits entry.len entry.code,
+      length-append left (cut.0 ∷ cut.1),
+      ap length cut.2,
     )

@@ -1,4 +1,5 @@
 pub mod Bits
+pub mod Reading
 pub mod Codes
 pub mod Tables
 pub mod Written

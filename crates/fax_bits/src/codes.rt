@@ -1,8 +1,10 @@
 //! Code tables, and the code that bits begin with.
 ghost use Rattle.std.specs.Prelude.{◌≡◌, ℕ, ◌^◌, ◌<◌, ◌≤◌, List, length, slice_get};
-ghost use Rattle.std.specs.Prelude.{OnOk, OnErr, IfOk, IfErr, MatchOption, Some, None};
+ghost use Rattle.std.specs.Prelude.{OnOk, OnErr, MatchOption, Some, None};
 ghost use Rattle.fax_bits.specs.Bits.{code_bits};
-ghost use Rattle.fax_bits.specs.Codes.{Takes, IsFaultOf, HasNoCode};
+ghost use Rattle.fax_bits.specs.Codes.{HasNoCode, code_fault};
+ghost use Rattle.fax_bits.specs.Codes.{read_code as read_code_of};
+ghost use Rattle.fax_bits.specs.Reading.{answered};
 ghost use Rattle.fax_bits.specs.views.Source.{KeepsEnd};
 
 use crate::BitSource;
@@ -103,8 +105,8 @@ pub(crate) fn within<M: Copy>(entry: CodeEntry<M>, n: u32) -> Option<(u32, M)>
 /// `DataEnds` where the bits end within a code, `BadCode` where no code begins so. The source is
 /// then as it was.
 pub fn read_code<T: CodeTable>(source: &mut BitSource) -> Result<T::Meaning, CodeFault>
-    ensures ok { IfOk result (λ meaning. Takes T.table source.old.left meaning source.new.left) }
-    ensures err { IfErr result (λ fault. IsFaultOf T.table source.old.left fault) }
+    ensures read { read_code_of T.table source.old.left
+        ≡ answered (λ meaning. meaning) result source.new.left }
     ensures unchanged { OnErr result (source.new ≡ source.old) }
 
     // The source goes on in the same bits, and a code takes at least one of them.
@@ -131,8 +133,7 @@ pub fn read_code<T: CodeTable>(source: &mut BitSource) -> Result<T::Meaning, Cod
 #[inline(never)]
 fn fault_at_end<T: CodeTable>(window: u32, n: u32) -> CodeFault
     requires fits { window < 2 ^ n }
-    requires none { HasNoCode T.table (code_bits n window) }
-    ensures { IsFaultOf T.table (code_bits n window) result }
+    ensures { result ≡ code_fault T.table (code_bits n window) }
 {
     for i in 0..T::COUNT {
         let entry = T::entry(i);

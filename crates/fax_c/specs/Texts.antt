@@ -53,7 +53,7 @@ NamesNote number old len new =
 
 -- the version, and its number
 abbrev pub version : List ℕ
-version = codes "1.10.2"
+version = codes "1.11.0"
 
 abbrev pub version_number : ℕ
-version_number = 11002
+version_number = 11100

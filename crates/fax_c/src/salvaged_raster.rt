@@ -165,8 +165,20 @@ fn fill_left(
     }
 }
 
-/// Tells what was written of rows that nobody counted, and how they end, where all stretches that
-/// are lost had room.
+/// Where rows of unknown height end that are salvaged up to a cursor: at the last one, which is lost,
+/// where no EOL is left after it, and else after the last one.
+fn end_place(cursor: Cursor, end: RowsEnd) -> FaxPlace
+    ensures { result ≡ Spec.end_place cursor end }
+{
+    let row = match end {
+        RowsEnd::Fault(_) => cursor.row.saturating_sub(1),
+        RowsEnd::Marked | RowsEnd::DataEnd | RowsEnd::TooMany => cursor.row,
+    };
+    FaxPlace::at(Cursor { row, ..cursor })
+}
+
+/// Tells what was written of rows of unknown height, and how they end, where all stretches that are
+/// lost had room.
 fn tell_left(filled: &Filled, end: RowsEnd, told: &mut FaxTold) -> u32
     requires { Code.IsDoneOrFull filled.now.stop }
     ensures { Spec.IsLeftTold filled.now end told.new result }
@@ -174,7 +186,7 @@ fn tell_left(filled: &Filled, end: RowsEnd, told: &mut FaxTold) -> u32
     if filled.stop.is_no_room() {
         return filled.tell(told);
     }
-    tell_end(filled, &FaxPlace::at(filled.cursor), end, told)
+    tell_end(filled, &end_place(filled.cursor, end), end, told)
 }
 
 /// Writes what is left of a strip whose rows nobody counted into a raster, and the rows that are

@@ -1,7 +1,8 @@
 //! The caller that `CALLING.md` shows, and a run of it.
-ghost use Rattle.std.specs.Prelude.{ℕ, ◌≤◌, Bool, List, length, IfOk, IfErr};
+ghost use Rattle.std.specs.Prelude.{◌≡◌, ◌≤◌, Bool, List, length};
 ghost use Rattle.fax_bits.specs.Bits.{bits};
-ghost use Rattle.fax_bits.specs.Codes.{Takes, IsFaultOf};
+ghost use Rattle.fax_bits.specs.Codes.{read_code as read_code_of};
+ghost use Rattle.fax_bits.specs.Reading.{answered};
 ghost use Rattle.fax_bits.specs.Tables.{modes};
 
 use fax_bits::{BitSource, CodeFault, FillOrder, ModeCode, Modes, read_code};
@@ -9,9 +10,8 @@ use fax_bits::{BitSource, CodeFault, FillOrder, ModeCode, Modes, read_code};
 /// The mode of the first step of an MMR strip.
 pub fn first_mode(bytes: &[u8], order: FillOrder) -> Result<ModeCode, CodeFault>
     requires { length bytes.now ≤ 4294967295 }
-    ensures ok { IfOk result
-        (λ mode. (rest : List Bool) × Takes modes (bits order bytes.now) mode rest) }
-    ensures err { IfErr result (λ fault. IsFaultOf modes (bits order bytes.now) fault) }
+    ensures { (rest : List Bool)
+        × (read_code_of modes (bits order bytes.now) ≡ answered (λ mode. mode) result rest) }
 {
     let mut source = BitSource::new(bytes, order);
     read_code::<Modes>(&mut source)

@@ -1,8 +1,9 @@
 //! The caller that `CALLING.md` shows, and a run of it.
 ghost use Rattle.std.specs.Prelude.{◌≡◌, ℕ, ◌<◌, ◌^◌, List, replicate, OnOk};
+ghost use Rattle.fax_bits.specs.Reading.{read};
 ghost use Rattle.fax_bits.specs.views.Sink.{Appends};
 ghost use Rattle.fax_rows.specs.Coded.{two_dimensional_bits};
-ghost use Rattle.fax_rows.specs.Rows.{IsOneDimensionalRow};
+ghost use Rattle.fax_rows.specs.ReadRows.{read_one_dimensional};
 
 use fax_rows::{BitSink, BitSource, Colour, FillOrder, Memory, Row, RowFault, put_2d, read_1d};
 use std::alloc::Global;
@@ -37,7 +38,7 @@ pub fn recode_first_row(
     requires some { 0 < width }
     requires short { width < 2 ^ 16 }
     ensures { OnOk result ((row : List Colour)
-        × IsOneDimensionalRow width source.old.left row source.new.left
+        × (read_one_dimensional width source.old.left ≡ read row source.new.left)
         × Appends sink.old (two_dimensional_bits (replicate width Colour.White) row) sink.new) }
 {
     let reference = Row::white(alloc, width)?;

@@ -26,8 +26,7 @@ number_at Big n file place = big_number n (drop place file)
 
 -- steps that end at the first fault (ours)
 infixl 10 ◌>>=◌
-abbrev pub ◌>>=◌ : {A B : Type 0} → Result A FileFault → (A → Result B FileFault)
-    → Result B FileFault
+abbrev pub ◌>>=◌ : {A B F : Type 0} → Result A F → (A → Result B F) → Result B F
 (Ok x) >>= next = next x
 (Err fault) >>= next = Err fault
 

@@ -9,6 +9,7 @@ use Rattle.fax_bits.specs.Bits.{IsAllZeros}
 use Rattle.fax_page.specs.declared.Dimension.TheVariants.{OneDimensional, TwoDimensional}
 use Rattle.fax_page.specs.declared.StripFault.TheVariants.{DataEnds, EndMarker}
 use Rattle.fax_page.specs.Lines.{Coding, Mh, Mr, Mmr, StripFault, StripForm, IsCause, start_by}
+use Rattle.fax_page.proofs.LineParts.{cause_of}
 use Rattle.fax_page.proofs.StartLaws.{eol_is, none_at}
 use Rattle.fax_page.specs.Strip.{AreReturnEols, HasEndMark, IsReturnEol, end_bits, end_of_line}
 use Rattle.fax_page.specs.Uncounted.{EndsSo, Fault}
@@ -43,27 +44,34 @@ pub mark_is_cause : (form : StripForm) (i : ℕ) (reference : List Colour) (b : 
 mark_is_cause form i reference b Mh is mark =
     let next = eol_is mark.1.0 mark.1.2.0 mark.1.2.1 in
     let marker = eleven_ahead mark.1.0 next.0 next.1 (mark.1.2.0, next.2) in
-    inr (OneDimensional, mark.1.0, rw is (ap (start_by Mh i b) mark.1.1), inl (marker.0, marker.1, refl))
+    cause_of form i reference b EndMarker
+    (inr (OneDimensional, mark.1.0, rw is (ap (start_by Mh i b) mark.1.1), inl (inl (marker.0, marker.1, refl))))
 mark_is_cause form i reference b Mr is mark =
     let next = eol_is mark.1.0 (true ∷ mark.1.2.0) mark.1.2.1 in
     let marker = eleven_ahead mark.1.0 next.0 next.1 (true ∷ mark.1.2.0, next.2) in
-    inr (OneDimensional, mark.1.0, rw is (ap (start_by Mr i b) mark.1.1), inl (marker.0, marker.1, refl))
+    cause_of form i reference b EndMarker
+    (inr (OneDimensional, mark.1.0, rw is (ap (start_by Mr i b) mark.1.1), inl (inl (marker.0, marker.1, refl))))
 mark_is_cause form i reference b Mmr is mark =
-    inr (TwoDimensional, b, rw is refl, inl (true ∷ end_of_line ++ mark.0, mark.1, refl))
+    cause_of form i reference b EndMarker
+    (inr (TwoDimensional, b, rw is refl, inl (inl (true ∷ end_of_line ++ mark.0, mark.1, refl))))
 
 -- and zeros alone are, or are where the data end
 pub zeros_are_cause : (form : StripForm) (i : ℕ) (reference : List Colour) (b : List Bool) (coding : Coding)
     → form.coding ≡ coding → IsAllZeros b
     → IsCause form i reference b DataEnds ⊎ IsCause form i reference b EndMarker
-zeros_are_cause form i reference b Mh is all = inl (inl (rw is (ap (start_by Mh i b) (none_at b all))))
-zeros_are_cause form i reference b Mr is all = inl (inl (rw is (ap (start_by Mr i b) (none_at b all))))
+zeros_are_cause form i reference b Mh is all =
+    inl (cause_of form i reference b DataEnds (inl (rw is (ap (start_by Mh i b) (none_at b all)))))
+zeros_are_cause form i reference b Mr is all =
+    inl (cause_of form i reference b DataEnds (inl (rw is (ap (start_by Mr i b) (none_at b all)))))
 zeros_are_cause form i reference b Mmr is all =
     elim (cases_lt all.0 11) [
-      | inl few ↦ inl (inr (TwoDimensional, b, rw is refl, inr (inl (all.0, few, all.1, refl))))
+      | inl few ↦ inl (cause_of form i reference b DataEnds
+          (inr (TwoDimensional, b, rw is refl, inl (inr (all.0, few, all.1, refl)))))
       | inr enough ↦
           let long = ap length all.1 ∙ length-replicate all.0 false in
           let marker = eleven_alone b (omega (arith, long, enough)) all in
-          inr (inr (TwoDimensional, b, rw is refl, inl (marker.0, marker.1, refl)))
+          inr (cause_of form i reference b EndMarker
+          (inr (TwoDimensional, b, rw is refl, inl (inl (marker.0, marker.1, refl)))))
     ]
 
 -- the first of zeros are zeros

@@ -14,8 +14,8 @@ use Rattle.fax_page.specs.Uncounted.{EndsSo, HasDataEnd}
 use Rattle.fax_page.specs.laws.StripGraphs.{EndsAreToldByAFunction}
 use Rattle.fax_page.specs.reads.Uncounted.{ends, after_mark, after_return, after_returns, has_data_end, has_end_mark}
 use Rattle.fax_page.specs.reads.Uncounted.{end_by_stop, rows_end}
-use Rattle.fax_rows.proofs.CodeGraph.{front_is}
-use Rattle.fax_rows.proofs.StepGraph.{is_false}
+use Rattle.fax_bits.proofs.CodeLemmas.{front_is}
+use Rattle.fax_rows.proofs.StepReadLemmas.{is_false}
 use Rattle.fax_page.proofs.StartLaws.{by_next, eol_is_not_zeros, none_at}
 
 -- an EOL of a return to control

@@ -1,23 +1,26 @@
 -- The codes of a row begin with fewer than eleven zeros and a 1.
-use Rattle.fax_page.specs.code.Starts.{BeginsBelowEleven}
-use Rattle.fax_page.proofs.StartLaws.{IsStart}
-use Rattle.std.proofs.Common.{◌∙◌}
-use Rattle.std.proofs.Common.{◌≡◌, ℕ, zero, suc, ◌<◌, List, [], ◌∷◌, ◌++◌, length, get_or, map, Bool, true, false, refl}
-use Rattle.std.proofs.Common.{ap}
-use Rattle.std.proofs.Common.{arith, Some, Ok}
+use Rattle.std.proofs.Common.{arith, ◌≡◌, ℕ, zero, suc, ◌<◌, List, [], ◌∷◌, ◌++◌, length, get_or, map, Bool, true}
+use Rattle.std.proofs.Common.{false}
+use Rattle.std.proofs.Common.{refl, ap, subst, ◌∙◌, Some, None}
 use Rattle.std.specs.Prelude.{◌&&◌}
 use Rattle.fax_bits.specs.declared.codes.CodeEntry.{CodeEntry}
 use Rattle.fax_bits.specs.declared.Colour.{Colour}
 use Rattle.fax_bits.specs.declared.Colour.TheVariants.{White}
 use Rattle.fax_bits.specs.declared.run_codes.RunCode.TheVariants.{Terminating, MakeUp}
 use Rattle.fax_bits.specs.Bits.{code_bits}
-use Rattle.fax_bits.specs.views.Source.{HasZerosAhead}
-use Rattle.fax_bits.specs.Codes.{bits_of, Takes, Spells}
+use Rattle.fax_bits.specs.Codes.{IsRun, bits_of, Takes, Spells}
+use Rattle.fax_bits.specs.Reading.{read}
 use Rattle.fax_bits.specs.Tables.{run_table, modes, white_runs, white_terminating, white_make_up, common_make_up}
-use Rattle.fax_rows.specs.Rows.{AreRuns, Position, beginning, AreSteps}
+use Rattle.fax_bits.specs.views.Source.{HasZerosAhead}
+use Rattle.fax_rows.specs.Rows.{beginning}
+use Rattle.fax_rows.specs.ReadRows.{read_one_dimensional, read_two_dimensional}
+use Rattle.fax_rows.proofs.RowRuleLemmas.{runs_rule, first_step_rule}
+use Rattle.fax_page.specs.declared.Dimension.TheVariants.{OneDimensional, TwoDimensional}
 use Rattle.fax_page.specs.declared.Dimension.{Dimension}
-use Rattle.fax_page.proofs.StartLaws.{code_at}
-use Rattle.fax_page.specs.Lines.{StripForm, IsRowIn, IsLine}
+use Rattle.fax_page.specs.Lines.{StripForm, IsLine, read_codes}
+use Rattle.fax_page.specs.code.Starts.{BeginsBelowEleven}
+use Rattle.fax_page.proofs.LineParts.{line_of}
+use Rattle.fax_page.proofs.StartLaws.{IsStart, code_at}
 
 -- a 1 is among the first n bits
 abbrev has_one : ℕ → List Bool → Bool
@@ -76,34 +79,41 @@ run_begins [] last b rest spelled = taken_begins (run_table White) b (Terminatin
 run_begins (n ∷ make_up) last b rest spelled = taken_begins (run_table White) b (MakeUp n) spelled.0 all_have_one-white
     spelled.1
 
-runs_begin : (width : ℕ) (runs : List ℕ) (b rest : List Bool) → 0 < width → AreRuns width White 0 b runs rest
-    → BeginsBelowEleven b
-runs_begin width [] b rest some coded = absurd (omega (arith, coded.0, some))
-runs_begin width (n ∷ runs) b rest some coded = run_begins coded.2.make_up coded.2.last b coded.1 coded.2.spelled
+runs_begin : (width : ℕ) (b : List Bool) (row : List Colour) (rest : List Bool) → 0 < width
+    → read_one_dimensional width b ≡ read row rest → BeginsBelowEleven b
+runs_begin width b row rest some is =
+    runs_rule width (λ at b pels rest. at.colour ≡ White → length at.pels < width → BeginsBelowEleven b)
+    (λ at b end white inside. absurd (omega (arith, inside, end)))
+    (λ at to b left pels rest unfinished run more white inside.
+    let first = subst (λ c. IsRun c b run.n left) white run.run in
+    run_begins first.make_up first.last b left first.spelled)
+    (record { pels = []; colour = White }) b row rest is refl some
 
-steps_begin : (reference : List Colour) (b : List Bool) (positions : List Position) (last : Position) (rest : List Bool)
-    → AreSteps reference beginning b positions last rest → last.a0 ≡ Some (length reference) → BeginsBelowEleven b
-steps_begin reference b [] last rest steps ends = grind arith
-steps_begin reference b (next ∷ positions) last rest steps ends =
-    taken_begins modes b steps.2.mode steps.2.after all_have_one-modes steps.2.taken
+steps_begin : (reference : List Colour) (b : List Bool) (row : List Colour) (rest : List Bool)
+    → read_two_dimensional reference b ≡ read row rest → BeginsBelowEleven b
+steps_begin reference b row rest is =
+    first_step_rule reference (λ b. BeginsBelowEleven b)
+    (λ at b new left step. taken_begins modes b step.mode step.after all_have_one-modes step.taken)
+    b row rest is
 
 -- the codes of a row of at least one pel
 pub row_begins : (dimension : Dimension) (width : ℕ) (reference : List Colour) (b : List Bool) (row : List Colour)
     (rest : List Bool)
     → 0 < width
-    → IsRowIn dimension width reference b row rest → BeginsBelowEleven b
-row_begins dimension width reference b row rest some is = grind (arith, runs_begin, steps_begin)
+    → read_codes dimension width reference b ≡ read row rest → BeginsBelowEleven b
+row_begins OneDimensional width reference b row rest some is = runs_begin width b row rest some is
+row_begins TwoDimensional width reference b row rest some is = steps_begin reference b row rest is
 
 -- a row whose codes are read after what stands before them
-unfoldable pub line_begun : (form : StripForm) (i : ℕ) (reference row : List Colour) (b codes rest : List Bool)
+pub line_begun : (form : StripForm) (i : ℕ) (reference row : List Colour) (b codes rest : List Bool)
     (dimension : Dimension)
-    → 0 < form.width → IsStart form.coding i b (Ok (dimension, codes))
-    → IsRowIn dimension form.width reference codes row rest
+    → 0 < form.width → IsStart form.coding i b (read dimension codes)
+    → read_codes dimension form.width reference codes ≡ read row rest
     → IsLine form i reference b row rest
-line_begun form i reference row b codes rest dimension some start read = record {
+line_begun form i reference row b codes rest dimension some start coded = line_of form i reference b row rest (record {
   dimension = dimension;
   codes = codes;
   start = start;
-  first_code = row_begins dimension form.width reference codes row rest some read;
-  coded = read;
-}
+  first_code = row_begins dimension form.width reference codes row rest some coded;
+  coded = coded;
+})

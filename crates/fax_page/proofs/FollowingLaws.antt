@@ -1,35 +1,33 @@
 -- What is read of bits stays, whatever follows them.
-use Rattle.fax_page.specs.code.Starts.{BeginsBelowEleven, IsEndOfLine}
-use Rattle.fax_page.specs.Lines.{NextOne, ends_line, in_code, next_one, not_there, read_start, start_by}
 use Rattle.std.proofs.Common.{◌≡◌, ℕ, zero, suc, ◌+◌, List, [], ◌∷◌, ◌++◌, replicate, Bool, true}
-use Rattle.std.proofs.Common.{false, refl, ap, sym, ◌∙◌, subst, arith}
-use Rattle.std.proofs.Common.{append_assoc, Option, Some, None, Result, Ok, Err}
-use Rattle.fax_bits.specs.Bits.{BeginsWith}
+use Rattle.std.proofs.Common.{false, refl, ap, sym, ◌∙◌, subst, arith, append_assoc, Option, Some, None}
 use Rattle.std.specs.Prelude.{nat_le, if◌then◌else◌, MatchOption}
+use Rattle.fax_bits.specs.Bits.{BeginsWith}
+use Rattle.fax_bits.specs.Codes.{after_front}
+use Rattle.fax_bits.specs.Reading.{Read, read, failed, map_fault}
 use Rattle.fax_bits.specs.Tables.{modes}
 use Rattle.fax_bits.specs.laws.Codes.{ReadsOneWay, ReadsRunsOneWay}
 use Rattle.fax_bits.specs.declared.Colour.{Colour}
+use Rattle.fax_bits.proofs.CodeLemmas.{front_is}
 use Rattle.fax_rows.specs.declared.RowFault.{RowFault}
 use Rattle.fax_rows.specs.declared.RowFault.TheVariants as in_row
-use Rattle.fax_rows.specs.reads.CodeReading.{◌>>=◌, after_front, map_fault}
 use Rattle.fax_page.specs.declared.Dimension.{Dimension}
 use Rattle.fax_page.specs.declared.Dimension.TheVariants.{OneDimensional, TwoDimensional}
 use Rattle.fax_page.specs.declared.Coding.{Coding}
 use Rattle.fax_page.specs.declared.Coding.TheVariants.{Mh, Mr, Mmr}
 use Rattle.fax_page.specs.declared.StripForm.{StripForm}
 use Rattle.fax_page.specs.declared.StripFault.TheVariants.{DataEnds, EndMarker}
-use Rattle.fax_page.specs.Lines.{IsLine, strip_fault}
+use Rattle.fax_page.specs.Lines.{NextOne, ends_line, in_code, next_one, not_there, read_start, start_by, IsLine}
+use Rattle.fax_page.specs.Lines.{check_first, first_bits, codes_after, read_codes, read_line, strip_fault}
 use Rattle.fax_page.specs.Strip.{AreLines}
+use Rattle.fax_page.specs.code.Starts.{BeginsBelowEleven, IsEndOfLine}
 use Rattle.fax_page.specs.laws.Following.{ReadsInPieces, StaysWhateverFollows}
-use Rattle.fax_page.specs.laws.StripGraphs.{StripsAreReadByFunctions}
 use Rattle.fax_page.specs.laws.Writer.{last_of}
-use Rattle.fax_page.specs.reads.Lines.{check_first, first_bits, read_line, read_row_codes}
-use Rattle.fax_rows.proofs.CodeGraph.{front_is}
-use Rattle.fax_page.proofs.LineGraph.{begins_of, marker_of}
+use Rattle.fax_page.proofs.FrontLemmas.{EndsWith, IsFront, answer_of, at_end, fault_of, is_read, joined}
+use Rattle.fax_page.proofs.FrontLemmas.{one_front, onwards, same, stops, two_front}
+use Rattle.fax_page.proofs.LineParts.{begins_of, marker_of}
 use Rattle.fax_page.proofs.StartLaws.{eol_is}
 use Rattle.fax_page.proofs.StartLemmas.{eleven_ahead}
-use Rattle.fax_page.proofs.FrontLemmas.{EndsWith, IsFront, answer_stays, at_end, done, ends_with, fault_stays, joined}
-use Rattle.fax_page.proofs.FrontLemmas.{one_front, onwards, same, stops, two_front}
 
 module _ (more : List Bool) where
   -- the next 1, and where more bits follow
@@ -63,7 +61,7 @@ module _ (more : List Bool) where
   -- what stands before a row's codes
   start_on : (coding : Coding) (i : ℕ) (b : List Bool) (one now : NextOne) → Stays b one now
       → IsFront DataEnds more b (start_by coding i b one) (start_by coding i (b ++ more) now)
-  start_on Mmr i b one now stays = done TwoDimensional b
+  start_on Mmr i b one now stays = is_read TwoDimensional b
   start_on Mh i b (ends_line codes) now (ends, is) = record { is = (ends, ap (start_by Mh i (b ++ more)) is) }
   start_on Mh zero b in_code now is = record { is = (same b b refl, ap (start_by Mh 0 (b ++ more)) is) }
   start_on Mh (suc i) b in_code now is = stops b _ _ (ap (start_by Mh (suc i) (b ++ more)) is)
@@ -79,64 +77,53 @@ module _ (more : List Bool) where
       → IsFront DataEnds more b (read_start coding i b) (read_start coding i (b ++ more))
   start_front coding i b = start_on coding i b (next_one 0 b) (next_one 0 (b ++ more)) (one_stays 0 b)
 
-  named_front : (b : List Bool) (r now : Result (List Colour × List Bool) RowFault)
-      → IsFront in_row.DataEnds more b r now
+  -- the first code
+  first_front : (b : List Bool) → IsFront DataEnds more b (check_first b) (check_first (b ++ more))
+  first_front b = by (after_front (replicate 11 false) b) (next_one 0 b) (front_is (replicate 11 false) b) refl
+    where
+      by : (r : Option (List Bool)) (one : NextOne)
+          → MatchOption r (BeginsWith b (replicate 11 false) → ⊥) (λ rest. b ≡ replicate 11 false ++ rest)
+          → next_one 0 b ≡ one → IsFront DataEnds more b (first_bits r one b) (check_first (b ++ more))
+      by (Some after) one is at =
+          stops b EndMarker _ (marker_of (b ++ more) (after ++ more)
+          (ap (λ c. c ++ more) is ∙ append_assoc (replicate 11 false) after more))
+      by None not_there none at = at_end b _
+      by None in_code none at = record { is = (same b b refl, begins_of (b ++ more) (below_stays b at)) }
+      by None (ends_line rest) none at =
+          let eol = eol_is b rest at in absurd (none (eleven_ahead b eol.0 eol.1 (rest, eol.2)))
+
+  named_front : (b : List Bool) (r now : Read (List Colour) RowFault) → IsFront in_row.DataEnds more b r now
       → IsFront DataEnds more b (map_fault strip_fault r) (map_fault strip_fault now)
-  named_front b (Ok x) now front = record { is = (front.is.0, ap (map_fault strip_fault) front.is.1) }
-  named_front b (Err fault) now front =
+  named_front b (read x rest) now front = record { is = (front.is.0, ap (map_fault strip_fault) front.is.1) }
+  named_front b (failed fault) now front =
       record { is = λ other. ap (map_fault strip_fault) (front.is (λ same. other (ap strip_fault same))) }
 
   module _ (runs_read : (colour : Colour) → ReadsRunsOneWay colour) (modes_read : ReadsOneWay modes) where
     row_front : (dimension : Dimension) (width : ℕ) (reference : List Colour) (b : List Bool)
-        → IsFront in_row.DataEnds more b (read_row_codes dimension width reference b)
-        (read_row_codes dimension width reference (b ++ more))
+        → IsFront in_row.DataEnds more b (read_codes dimension width reference b)
+        (read_codes dimension width reference (b ++ more))
     row_front OneDimensional width reference b = one_front runs_read modes_read more width b
     row_front TwoDimensional width reference b = two_front runs_read modes_read more reference b
-
-    codes_front : (dimension : Dimension) (width : ℕ) (reference : List Colour) (b : List Bool)
-        → IsFront DataEnds more b
-        (check_first b >>= λ _. map_fault strip_fault (read_row_codes dimension width reference b))
-        (check_first (b ++ more) >>= λ _. map_fault strip_fault (read_row_codes dimension width reference (b ++ more)))
-    codes_front dimension width reference b =
-        by (after_front (replicate 11 false) b) (next_one 0 b) (front_is (replicate 11 false) b) refl
-      where
-        by : (r : Option (List Bool)) (one : NextOne)
-            → MatchOption r (BeginsWith b (replicate 11 false) → ⊥) (λ rest. b ≡ replicate 11 false ++ rest)
-            → next_one 0 b ≡ one → IsFront DataEnds more b
-            (first_bits r one >>= λ _. map_fault strip_fault (read_row_codes dimension width reference b))
-            (check_first (b ++ more) >>= λ _. map_fault strip_fault
-            (read_row_codes dimension width reference (b ++ more)))
-        by (Some after) one is at =
-            stops b EndMarker _ (ap (λ checked. checked >>= λ _. map_fault strip_fault
-            (read_row_codes dimension width reference (b ++ more))) (marker_of (b ++ more) (after ++ more)
-            (ap (λ c. c ++ more) is ∙ append_assoc (replicate 11 false) after more)))
-        by None not_there none at = at_end b _
-        by None in_code none at =
-            rw (begins_of (b ++ more) (below_stays b at)) (named_front b _ _ (row_front dimension width reference b))
-        by None (ends_line rest) none at =
-            let eol = eol_is b rest at in absurd (none (eleven_ahead b eol.0 eol.1 (rest, eol.2)))
 
     pub line_front : (form : StripForm) (i : ℕ) (reference : List Colour) (b : List Bool)
         → IsFront DataEnds more b (read_line form i reference b) (read_line form i reference (b ++ more))
     line_front form i reference b =
-        joined b _ _ _ _ (start_front form.coding i b) (λ dimension codes.
-        codes_front dimension form.width reference codes)
+        joined b _ _ (codes_after form reference) (start_front form.coding i b) (λ dimension codes.
+        joined codes _ _ _ (first_front codes) (λ _ rest.
+        named_front rest _ _ (row_front dimension form.width reference rest)))
 
-module _ (strips : StripsAreReadByFunctions) (runs_read : (colour : Colour) → ReadsRunsOneWay colour)
-    (modes_read : ReadsOneWay modes) where
-  fronts : (form : StripForm) (i : ℕ) (reference : List Colour) (more b : List Bool)
-      → IsFront DataEnds more b (read_line form i reference b) (read_line form i reference (b ++ more))
-  fronts form i reference more = line_front more runs_read modes_read form i reference
-
+module _ (runs_read : (colour : Colour) → ReadsRunsOneWay colour) (modes_read : ReadsOneWay modes) where
   pub line_ends : (form : StripForm) (i : ℕ) (reference : List Colour) (b : List Bool) (row : List Colour)
       (rest : List Bool) → IsLine form i reference b row rest → EndsWith b rest
-  line_ends form i reference = ends_with (strips.line form i reference) DataEnds (fronts form i reference)
+  line_ends form i reference b row rest line =
+      (answer_of row rest line (line_front [] runs_read modes_read form i reference b)).0
 
   pub stays_whatever_follows : (form : StripForm) (i : ℕ) (reference : List Colour)
       → StaysWhateverFollows form i reference
   stays_whatever_follows form i reference = record {
-    row = answer_stays (strips.line form i reference) DataEnds (fronts form i reference);
-    fault = fault_stays (strips.line form i reference) DataEnds (fronts form i reference);
+    row = λ b more row rest line. (answer_of row rest line (line_front more runs_read modes_read form i reference b)).1;
+    fault = λ b more fault other cause.
+        fault_of fault other cause (line_front more runs_read modes_read form i reference b);
   }
 
 -- rows of bits, and then those of what is left

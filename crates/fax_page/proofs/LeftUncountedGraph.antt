@@ -1,9 +1,9 @@
 -- What a function reads of damaged rows that nobody counted is what is defined.
 use Rattle.std.proofs.Common.{arith, ◌≡◌, ℕ, zero, suc, ◌+◌, ◌<◌, List, [], ◌∷◌, Bool, true, false, refl, ap, sym}
-use Rattle.std.proofs.Common.{◌∙◌, subst, inl, inr, Option, Some, None, Ok, Err}
-use Rattle.std.specs.Prelude.{MatchResult, if◌then◌else◌, ◌⊎◌}
+use Rattle.std.proofs.Common.{◌∙◌, subst, inl, inr, Option, Some, None}
+use Rattle.std.specs.Prelude.{if◌then◌else◌, ◌⊎◌}
 use Rattle.fax_bits.specs.declared.Colour.{Colour}
-use Rattle.fax_rows.proofs.StepGraph.{is_false}
+use Rattle.fax_rows.proofs.StepReadLemmas.{is_false}
 use Rattle.fax_page.specs.declared.RowsEnd.{RowsEnd}
 use Rattle.fax_page.specs.declared.RowsEnd.TheVariants.{DataEnd, Fault, Marked, TooMany}
 use Rattle.fax_page.specs.declared.StripFault.{StripFault}
@@ -11,16 +11,16 @@ use Rattle.fax_page.specs.declared.StripFault.TheVariants.{MissingEol}
 use Rattle.fax_page.specs.declared.StripForm.{StripForm}
 use Rattle.fax_page.specs.Lines.{white_row}
 use Rattle.fax_page.specs.Uncounted.{EndsSo}
-use Rattle.fax_page.specs.Salvage.{IsLostFor, IsReadOver, SalvagedRow, found, lost, next_due, sought_from, unended}
+use Rattle.fax_page.specs.Salvage.{IsReadOver, SalvagedRow, found, lost, next_due, sought_from, unended}
 use Rattle.fax_page.specs.LeftUncounted.{AreLeftUncounted, GoesOnUncounted, IsEndBefore, IsRowDue}
 use Rattle.fax_page.specs.Lines.{read_start}
 use Rattle.fax_page.specs.reads.Salvage.{lacks_eol, read_over}
 use Rattle.fax_page.specs.reads.Uncounted.{rows_end}
 use Rattle.fax_page.specs.reads.Salvage.{RowsAndEnd, before_rows, end_or_row, salvage_uncounted}
 use Rattle.fax_page.specs.reads.Salvage.{uncounted_after_lost, uncounted_from_eol, uncounted_row}
-use Rattle.fax_page.specs.laws.StripGraphs.{StripsAreReadByFunctions}
+use Rattle.fax_bits.specs.Reading.{read, failed}
 use Rattle.fax_page.proofs.EndGraph.{end_is, end_of}
-use Rattle.fax_page.proofs.SalvageGraph.{Line, lacks, lacks_where, lost_of, over_is, over_of}
+use Rattle.fax_page.proofs.SalvageGraph.{IsOver, Line, lacks, lacks_where, lost_of, over_is, over_of}
 
 abbrev More : Type 0
 More = Option StripFault → List Colour → List Bool → RowsAndEnd
@@ -72,131 +72,129 @@ module _ (n : ℕ) (form : StripForm) (i : ℕ) (before : Option StripFault) (re
       → Are form i before reference b
       (if missing then (before_rows (unended row) (uncounted_after_lost n form i b more MissingEol)) else
       (before_rows (found row) (more None row rest)))
-  by_end row rest read true at =
+  by_end row rest over true at =
       let missing = lacks_where form i rest at in
-      (rest, due, read, missing.0, missing.1, after MissingEol)
-  by_end row rest read false at = (
+      (rest, due, over, missing.0, missing.1, after MissingEol)
+  by_end row rest over false at = (
     rest,
     due,
-    read,
+    over,
     (λ eol below. let missing = lacks form i rest eol below in absurd (cc (at, missing))),
     are None row rest,
   )
 
-  by_line : (r : Line)
-      → MatchResult r (λ line. IsReadOver form i before reference b line.0 line.1) (IsLostFor form i before reference b)
+  by_line : (r : Line) → IsOver form i before reference b r
       → Are form i before reference b (uncounted_row n form i b more r)
-  by_line (Ok (row, rest)) read = by_end row rest read (lacks_eol form i rest) refl
-  by_line (Err fault) cause = (due, cause, after fault)
+  by_line (read row rest) over = by_end row rest over (lacks_eol form i rest) refl
+  by_line (failed fault) cause = (due, cause, after fault)
 
-module _ (strips : StripsAreReadByFunctions) where
-  -- the rows end, or one is due
-  by_end_before : (form : StripForm) (i : ℕ) (before : Option StripFault) (reference : List Colour) (b : List Bool)
-      (row : RowsAndEnd) (end : RowsEnd) → EndsSo form.coding i b None end → i < form.rows
-      → (IsRowDue form i b → Are form i before reference b row) → Are form i before reference b (end_or_row end row)
-  by_end_before form i before reference b row Marked ends low read = (ends, λ many. cc)
-  by_end_before form i before reference b row DataEnd ends low read = (ends, λ many. cc)
-  by_end_before form i before reference b row (Fault fault) ends low read = absurd (let none = ends.2 in cc)
-  by_end_before form i before reference b row TooMany ends low read = read (low, ends.0, ends.1)
+-- the rows end, or one is due
+by_end_before : (form : StripForm) (i : ℕ) (before : Option StripFault) (reference : List Colour) (b : List Bool)
+    (row : RowsAndEnd) (end : RowsEnd) → EndsSo form.coding i b None end → i < form.rows
+    → (IsRowDue form i b → Are form i before reference b row) → Are form i before reference b (end_or_row end row)
+by_end_before form i before reference b row Marked ends low later = (ends, λ many. cc)
+by_end_before form i before reference b row DataEnd ends low later = (ends, λ many. cc)
+by_end_before form i before reference b row (Fault fault) ends low later = absurd (let none = ends.2 in cc)
+by_end_before form i before reference b row TooMany ends low later = later (low, ends.0, ends.1)
 
-  pub left_are : (n : ℕ) (form : StripForm) (i : ℕ) (before : Option StripFault) (reference : List Colour)
-      (b : List Bool) → i + n ≡ form.rows
-      → Are form i before reference b (salvage_uncounted n form i before reference b)
-  left_are zero form i before reference b count = (end_is form.coding i b None, λ many. omega (arith, count))
-  left_are (suc n) form i before reference b count =
-      by_end_before form i before reference b _ (rows_end form.coding i b None) (end_is form.coding i b None)
-      (omega (arith, count))
-      (λ due. by_line n form i before reference b
-      (λ before row rest. salvage_uncounted n form (i + 1) before row rest) count due
-      (λ before row rest. left_are n form (i + 1) before row rest (omega (arith, count)))
-      (read_over form i before reference b) (over_is strips form i before reference b))
+pub left_are : (n : ℕ) (form : StripForm) (i : ℕ) (before : Option StripFault) (reference : List Colour)
+    (b : List Bool) → i + n ≡ form.rows
+    → Are form i before reference b (salvage_uncounted n form i before reference b)
+left_are zero form i before reference b count = (end_is form.coding i b None, λ many. omega (arith, count))
+left_are (suc n) form i before reference b count =
+    by_end_before form i before reference b _ (rows_end form.coding i b None) (end_is form.coding i b None)
+    (omega (arith, count))
+    (λ due. by_line n form i before reference b
+    (λ before row rest. salvage_uncounted n form (i + 1) before row rest) count due
+    (λ before row rest. left_are n form (i + 1) before row rest (omega (arith, count)))
+    (read_over form i before reference b) (over_is form i before reference b))
 
-  -- and what is defined is read
-  ended_of : (form : StripForm) (i : ℕ) (b : List Bool) (row : RowsAndEnd) (end : RowsEnd) → i < form.rows
-      → IsEndBefore form i b end → end_or_row end row ≡ ([], end)
-  ended_of form i b row Marked low ended = refl
-  ended_of form i b row DataEnd low ended = refl
-  ended_of form i b row (Fault fault) low ended = absurd (let none = ended.0.2 in cc)
-  ended_of form i b row TooMany low ended = absurd (omega (arith, low, ended.1 refl))
+-- and what is defined is read
+ended_of : (form : StripForm) (i : ℕ) (b : List Bool) (row : RowsAndEnd) (end : RowsEnd) → i < form.rows
+    → IsEndBefore form i b end → end_or_row end row ≡ ([], end)
+ended_of form i b row Marked low ended = refl
+ended_of form i b row DataEnd low ended = refl
+ended_of form i b row (Fault fault) low ended = absurd (let none = ended.0.2 in cc)
+ended_of form i b row TooMany low ended = absurd (omega (arith, low, ended.1 refl))
 
-  -- what follows a lost row
-  after_of : (n : ℕ) (form : StripForm) (i : ℕ) (b : List Bool) (fault : StripFault) (rows : List SalvagedRow)
-      (end : RowsEnd) → i + suc n ≡ form.rows
-      → ((due : List Bool) → AreLeftUncounted form (i + 1) (Some fault) (white_row form.width) due rows end
-      → salvage_uncounted n form (i + 1) (Some fault) (white_row form.width) due ≡ (rows, end))
-      → GoesOn form i b fault (rows, end)
-      → uncounted_after_lost n form i b (λ before row rest. salvage_uncounted n form (i + 1) before row rest) fault
-      ≡ (rows, end)
-  after_of n form i b fault rows end count later (from, sought, after) =
-      ap (λ (f : List Bool). uncounted_from_eol n form (more n) fault (next_due form.coding f))
-      sought ∙ by n count later (next_due form.coding from) refl after
-    where
-      more : ℕ → More
-      more m before row rest = salvage_uncounted m form (i + 1) before row rest
+-- what follows a lost row
+after_of : (n : ℕ) (form : StripForm) (i : ℕ) (b : List Bool) (fault : StripFault) (rows : List SalvagedRow)
+    (end : RowsEnd) → i + suc n ≡ form.rows
+    → ((due : List Bool) → AreLeftUncounted form (i + 1) (Some fault) (white_row form.width) due rows end
+    → salvage_uncounted n form (i + 1) (Some fault) (white_row form.width) due ≡ (rows, end))
+    → GoesOn form i b fault (rows, end)
+    → uncounted_after_lost n form i b (λ before row rest. salvage_uncounted n form (i + 1) before row rest) fault
+    ≡ (rows, end)
+after_of n form i b fault rows end count later (from, sought, after) =
+    ap (λ (f : List Bool). uncounted_from_eol n form (more n) fault (next_due form.coding f))
+    sought ∙ by n count later (next_due form.coding from) refl after
+  where
+    more : ℕ → More
+    more m before row rest = salvage_uncounted m form (i + 1) before row rest
 
-      by : (m : ℕ) → i + suc m ≡ form.rows
-          → ((due : List Bool) → AreLeftUncounted form (i + 1) (Some fault) (white_row form.width) due rows end
-          → salvage_uncounted m form (i + 1) (Some fault) (white_row form.width) due ≡ (rows, end))
-          → (o : Option (List Bool)) → next_due form.coding from ≡ o
-          → ((((next_due form.coding from ≡ None) ⊎ (i + 1 ≡ form.rows)) × (rows ≡ []) × (end ≡ Fault fault))
-          ⊎ ((due : List Bool) × (next_due form.coding from ≡ Some due) × (i + 1 < form.rows)
-          × AreLeftUncounted form (i + 1) (Some fault) (white_row form.width) due rows end))
-          → uncounted_from_eol m form (more m) fault o ≡ (rows, end)
-      by zero count later o at (inl (_, none, ends)) = cc (none, ends)
-      by zero count later o at (inr (due, some, low, are)) = absurd (omega (arith, count, low))
-      by (suc m) count later None at (inl (_, none, ends)) = cc (none, ends)
-      by (suc m) count later (Some due) at (inl (inl no_due, none, ends)) = absurd (cc (at, no_due))
-      by (suc m) count later (Some due) at (inl (inr last, none, ends)) = absurd (omega (arith, count, last))
-      by (suc m) count later None at (inr (due, some, low, are)) = absurd (cc (at, some))
-      by (suc m) count later (Some other) at (inr (due, some, low, are)) =
-          let same : Some due ≡ Some other = sym some ∙ at in
-          let is : due ≡ other = cc same in
-          later other (subst (λ d. AreLeftUncounted form (i + 1) (Some fault) (white_row form.width) d rows
-          end) is are)
+    by : (m : ℕ) → i + suc m ≡ form.rows
+        → ((due : List Bool) → AreLeftUncounted form (i + 1) (Some fault) (white_row form.width) due rows end
+        → salvage_uncounted m form (i + 1) (Some fault) (white_row form.width) due ≡ (rows, end))
+        → (o : Option (List Bool)) → next_due form.coding from ≡ o
+        → ((((next_due form.coding from ≡ None) ⊎ (i + 1 ≡ form.rows)) × (rows ≡ []) × (end ≡ Fault fault))
+        ⊎ ((due : List Bool) × (next_due form.coding from ≡ Some due) × (i + 1 < form.rows)
+        × AreLeftUncounted form (i + 1) (Some fault) (white_row form.width) due rows end))
+        → uncounted_from_eol m form (more m) fault o ≡ (rows, end)
+    by zero count later o at (inl (_, none, ends)) = cc (none, ends)
+    by zero count later o at (inr (due, some, low, are)) = absurd (omega (arith, count, low))
+    by (suc m) count later None at (inl (_, none, ends)) = cc (none, ends)
+    by (suc m) count later (Some due) at (inl (inl no_due, none, ends)) = absurd (cc (at, no_due))
+    by (suc m) count later (Some due) at (inl (inr last, none, ends)) = absurd (omega (arith, count, last))
+    by (suc m) count later None at (inr (due, some, low, are)) = absurd (cc (at, some))
+    by (suc m) count later (Some other) at (inr (due, some, low, are)) =
+        let same : Some due ≡ Some other = sym some ∙ at in
+        let is : due ≡ other = cc same in
+        later other (subst (λ d. AreLeftUncounted form (i + 1) (Some fault) (white_row form.width) d rows
+        end) is are)
 
-  -- a row that is due is read
-  due_of : (n : ℕ) (form : StripForm) (i : ℕ) (before : Option StripFault) (reference : List Colour) (b : List Bool)
-      (r : Line) → IsRowDue form i b → read_over form i before reference b ≡ r
-      → salvage_uncounted (suc n) form i before reference b
-      ≡ uncounted_row n form i b (λ before row rest. salvage_uncounted n form (i + 1) before row rest) r
-  due_of n form i before reference b r due is =
-      let more : More = λ before row rest. salvage_uncounted n form (i + 1) before row rest in
-      ap (λ end. end_or_row end (uncounted_row n form i b more (read_over form i before reference b)))
-      (end_of form.coding i b None TooMany (due.1, due.2, refl))
-      ∙ ap (uncounted_row n form i b more) is
+-- a row that is due is read
+due_of : (n : ℕ) (form : StripForm) (i : ℕ) (before : Option StripFault) (reference : List Colour) (b : List Bool)
+    (r : Line) → IsRowDue form i b → read_over form i before reference b ≡ r
+    → salvage_uncounted (suc n) form i before reference b
+    ≡ uncounted_row n form i b (λ before row rest. salvage_uncounted n form (i + 1) before row rest) r
+due_of n form i before reference b r due is =
+    let more : More = λ before row rest. salvage_uncounted n form (i + 1) before row rest in
+    ap (λ end. end_or_row end (uncounted_row n form i b more (read_over form i before reference b)))
+    (end_of form.coding i b None TooMany (due.1, due.2, refl))
+    ∙ ap (uncounted_row n form i b more) is
 
-  pub left_of : (n : ℕ) (form : StripForm) (i : ℕ) (before : Option StripFault) (reference : List Colour)
-      (b : List Bool) (rows : List SalvagedRow) (end : RowsEnd) → i + n ≡ form.rows
-      → AreLeftUncounted form i before reference b rows end
-      → salvage_uncounted n form i before reference b ≡ (rows, end)
-  left_of zero form i before reference b [] end count are =
-      ap (λ ends. ([], ends)) (end_of form.coding i b None end are.0)
-  left_of zero form i before reference b (found row ∷ rows) end count are = absurd (omega (arith, count, are.1.0))
-  left_of zero form i before reference b (lost fault ∷ rows) end count are = absurd (omega (arith, count, are.0.0))
-  left_of zero form i before reference b (unended row ∷ rows) end count are = absurd (omega (arith, count, are.1.0))
-  left_of (suc n) form i before reference b [] end count are =
-      let more : More = λ before row rest. salvage_uncounted n form (i + 1) before row rest in
-      let row = uncounted_row n form i b more (read_over form i before reference b) in
-      ap (λ ends. end_or_row ends row) (end_of form.coding i b None end are.0)
-      ∙ ended_of form i b row end (omega (arith, count)) are
-  left_of (suc n) form i before reference b (found row ∷ rows) end count (rest, due, over, ended, are) =
-      let more : More = λ before row rest. salvage_uncounted n form (i + 1) before row rest in
-      let none = is_false (lacks_eol form i rest) (λ is. let missing = lacks_where form i rest is in
-      ended missing.0 missing.1) in
-      due_of n form i before reference b (Ok (row, rest)) due (over_of strips form i before reference b row rest over)
-      ∙ ap (λ missing. if missing then before_rows (unended row) (uncounted_after_lost n form i b more MissingEol)
-      else before_rows (found row) (more None row rest)) none
-      ∙ ap (before_rows (found row)) (left_of n form (i + 1) None row rest rows end (omega (arith, count)) are)
-  left_of (suc n) form i before reference b (lost fault ∷ rows) end count (due, is, after) =
-      due_of n form i before reference b (Err fault) due (lost_of strips form i before reference b fault is)
-      ∙ ap (before_rows (lost fault)) (after_of n form i b fault rows end count
-      (λ at are. left_of n form (i + 1) (Some fault) (white_row form.width) at rows end (omega (arith, count)) are)
-      after)
-  left_of (suc n) form i before reference b (unended row ∷ rows) end count (rest, due, over, eol, below, after) =
-      let more : More = λ before row rest. salvage_uncounted n form (i + 1) before row rest in
-      due_of n form i before reference b (Ok (row, rest)) due (over_of strips form i before reference b row rest over)
-      ∙ ap (λ missing. if missing then before_rows (unended row) (uncounted_after_lost n form i b more MissingEol)
-      else before_rows (found row) (more None row rest)) (lacks form i rest eol below)
-      ∙ ap (before_rows (unended row)) (after_of n form i b MissingEol rows end count
-      (λ at are. left_of n form (i + 1) (Some MissingEol) (white_row form.width) at rows end (omega (arith, count)) are)
-      after)
+pub left_of : (n : ℕ) (form : StripForm) (i : ℕ) (before : Option StripFault) (reference : List Colour)
+    (b : List Bool) (rows : List SalvagedRow) (end : RowsEnd) → i + n ≡ form.rows
+    → AreLeftUncounted form i before reference b rows end
+    → salvage_uncounted n form i before reference b ≡ (rows, end)
+left_of zero form i before reference b [] end count are =
+    ap (λ ends. ([], ends)) (end_of form.coding i b None end are.0)
+left_of zero form i before reference b (found row ∷ rows) end count are = absurd (omega (arith, count, are.1.0))
+left_of zero form i before reference b (lost fault ∷ rows) end count are = absurd (omega (arith, count, are.0.0))
+left_of zero form i before reference b (unended row ∷ rows) end count are = absurd (omega (arith, count, are.1.0))
+left_of (suc n) form i before reference b [] end count are =
+    let more : More = λ before row rest. salvage_uncounted n form (i + 1) before row rest in
+    let row = uncounted_row n form i b more (read_over form i before reference b) in
+    ap (λ ends. end_or_row ends row) (end_of form.coding i b None end are.0)
+    ∙ ended_of form i b row end (omega (arith, count)) are
+left_of (suc n) form i before reference b (found row ∷ rows) end count (rest, due, over, ended, are) =
+    let more : More = λ before row rest. salvage_uncounted n form (i + 1) before row rest in
+    let none = is_false (lacks_eol form i rest) (λ is. let missing = lacks_where form i rest is in
+    ended missing.0 missing.1) in
+    due_of n form i before reference b (read row rest) due (over_of form i before reference b row rest over)
+    ∙ ap (λ missing. if missing then before_rows (unended row) (uncounted_after_lost n form i b more MissingEol)
+    else before_rows (found row) (more None row rest)) none
+    ∙ ap (before_rows (found row)) (left_of n form (i + 1) None row rest rows end (omega (arith, count)) are)
+left_of (suc n) form i before reference b (lost fault ∷ rows) end count (due, is, after) =
+    due_of n form i before reference b (failed fault) due (lost_of form i before reference b fault is)
+    ∙ ap (before_rows (lost fault)) (after_of n form i b fault rows end count
+    (λ at are. left_of n form (i + 1) (Some fault) (white_row form.width) at rows end (omega (arith, count)) are)
+    after)
+left_of (suc n) form i before reference b (unended row ∷ rows) end count (rest, due, over, eol, below, after) =
+    let more : More = λ before row rest. salvage_uncounted n form (i + 1) before row rest in
+    due_of n form i before reference b (read row rest) due (over_of form i before reference b row rest over)
+    ∙ ap (λ missing. if missing then before_rows (unended row) (uncounted_after_lost n form i b more MissingEol)
+    else before_rows (found row) (more None row rest)) (lacks form i rest eol below)
+    ∙ ap (before_rows (unended row)) (after_of n form i b MissingEol rows end count
+    (λ at are. left_of n form (i + 1) (Some MissingEol) (white_row form.width) at rows end (omega (arith, count)) are)
+    after)

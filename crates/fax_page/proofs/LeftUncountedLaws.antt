@@ -11,37 +11,37 @@ use Rattle.fax_page.specs.Salvage.{SalvagedRow, found, lost, next_due, unended}
 use Rattle.fax_page.specs.LeftUncounted.{AreLeftUncounted, GoesOnUncounted, IsLeftUncounted}
 use Rattle.fax_page.specs.laws.LeftUncounted.{AreUncountedOneWay}
 use Rattle.fax_page.specs.laws.Salvage.{SalvagesStripsOneWay}
-use Rattle.fax_page.specs.laws.StripGraphs.{DamagedStripsAreReadByFunctions, StripsAreReadByFunctions}
+use Rattle.fax_page.specs.laws.StripGraphs.{DamagedStripsAreReadByFunctions}
 use Rattle.fax_page.specs.reads.Salvage.{RowsAndEnd, salvage_uncounted}
 use Rattle.fax_page.proofs.LeftUncountedGraph.{left_are, left_of}
 use Rattle.fax_page.proofs.SalvageGraph.{rows_are, rows_of}
 
-pub left_one_way : StripsAreReadByFunctions → (form : StripForm) (i : ℕ) (before : Option StripFault)
+pub left_one_way : (form : StripForm) (i : ℕ) (before : Option StripFault)
     (reference : List Colour) (b : List Bool) → i ≤ form.rows → AreUncountedOneWay form i before reference b
-left_one_way strips form i before reference b within =
+left_one_way form i before reference b within =
     let due : i + (form.rows - i) ≡ form.rows = omega (arith, within) in
     let left = salvage_uncounted (form.rows - i) form i before reference b in
     record {
       rows = left.0;
       end = left.1;
-      are = left_are strips (form.rows - i) form i before reference b due;
+      are = left_are (form.rows - i) form i before reference b due;
       one = λ others other are.
-          let same = sym (left_of strips (form.rows - i) form i before reference b others other due are) in
+          let same = sym (left_of (form.rows - i) form i before reference b others other due are) in
           (ap (λ (l : RowsAndEnd). l.0) same, ap (λ (l : RowsAndEnd). l.1) same);
     }
 
 -- functions read what is left of strips, counted or not
-pub damaged_graph : StripsAreReadByFunctions → DamagedStripsAreReadByFunctions
-damaged_graph strips = record {
+pub damaged_graph : DamagedStripsAreReadByFunctions
+damaged_graph = record {
   strip = λ form b rows. (
-    λ is. rows_of strips form.rows form 0 None (white_row form.width) b rows (omega arith) is,
+    λ is. rows_of form.rows form 0 None (white_row form.width) b rows (omega arith) is,
     λ same. subst (IsSalvagedStrip form b) same
-        (rows_are strips form.rows form 0 None (white_row form.width) b (omega arith)),
+        (rows_are form.rows form 0 None (white_row form.width) b (omega arith)),
   );
   uncounted = λ form b rows end. (
-    λ is. left_of strips form.rows form 0 None (white_row form.width) b rows end (omega arith) is,
+    λ is. left_of form.rows form 0 None (white_row form.width) b rows end (omega arith) is,
     λ same. subst (λ (left : RowsAndEnd). IsLeftUncounted form b left.0 left.1) same
-        (left_are strips form.rows form 0 None (white_row form.width) b (omega arith)),
+        (left_are form.rows form 0 None (white_row form.width) b (omega arith)),
   );
 }
 

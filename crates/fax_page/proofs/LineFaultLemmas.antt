@@ -1,8 +1,9 @@
 -- The fault of a row that could not be read, where its start is read once more.
 use Rattle.fax_page.proofs.StartLaws.{IsStart}
-use Rattle.std.proofs.Common.{arith, ◌≡◌, ℕ, ◌+◌, List, Bool, drop, Ok}
+use Rattle.std.proofs.Common.{arith, ◌≡◌, ℕ, ◌+◌, List, Bool, drop}
 use Rattle.fax_bits.specs.declared.Colour.{Colour}
 use Rattle.fax_bits.specs.declared.FillOrder.{FillOrder}
+use Rattle.fax_bits.specs.Reading.{read}
 use Rattle.fax_bits.specs.views.Source.{Source, source_of}
 use Rattle.fax_rows.specs.declared.RowFault.{RowFault}
 use Rattle.fax_page.specs.declared.lines.LineStop.TheVariants.{Codes}
@@ -15,7 +16,7 @@ use Rattle.fax_page.proofs.BegunLemmas.{one_begun}
 -- the codes after one start are those after another
 pub in_codes : (form : StripForm) (i : ℕ) (reference : List Colour) (b : List Bool) (cause : RowFault)
     → IsLineStop form i reference b (Codes cause) → (dimension : Dimension) (codes : List Bool)
-    → IsStart form.coding i b (Ok (dimension, codes)) → (fault : StripFault) → IsStop codes cause fault
+    → IsStart form.coding i b (read dimension codes) → (fault : StripFault) → IsStop codes cause fault
     → IsCause form i reference b fault
 in_codes form i reference b cause (first, others, begun, stops) dimension codes again fault stop =
     let same = one_begun form.coding i b first dimension others codes begun again in

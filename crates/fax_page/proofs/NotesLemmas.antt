@@ -1,20 +1,21 @@
 -- A strip that is read for its notes, row by row.
 use Rattle.fax_page.proofs.StartLaws.{IsStart}
 use Rattle.std.proofs.Common.{◌≡◌, ℕ, ◌+◌, ◌<◌, ◌↔◌, List, [], ◌∷◌}
-use Rattle.std.proofs.Common.{◌++◌, length, Bool, true, false, IsTrue, refl, ap, Ok}
+use Rattle.std.proofs.Common.{◌++◌, length, Bool, true, false, IsTrue, refl, ap}
 use Rattle.std.proofs.Common.{sym, ◌∙◌, subst}
 use Rattle.std.proofs.Common.{arith, append_assoc, append-nil, length-append, inl, inr, Option, Some, None}
 use Rattle.fax_bits.specs.declared.Colour.{Colour}
 use Rattle.fax_bits.specs.Bits.{BeginsWith}
-use Rattle.fax_rows.specs.laws.Rows.{HasWidth, OneDimensionalBitsAreOneRow, TwoDimensionalBitsAreOneRow}
+use Rattle.fax_rows.specs.laws.Rows.{HasWidth, OneDimensionalBitsAreRead, TwoDimensionalBitsAreRead}
 use Rattle.fax_page.specs.declared.Dimension.{Dimension}
 use Rattle.fax_page.specs.declared.StripForm.{StripForm}
 use Rattle.fax_page.specs.declared.StripFault.{StripFault}
 use Rattle.fax_page.specs.declared.notes.NotesFault.{NotesFault}
 use Rattle.fax_page.specs.declared.notes.NotesFault.TheVariants.{Memory, Strip}
 use Rattle.fax_page.specs.declared.notes.StripNotes.{StripNotes}
-use Rattle.fax_page.specs.Lines.{IsCause, IsLine, IsRowIn, white_row}
-use Rattle.fax_page.specs.Strip.{AreLines, row_bits, HasOtherChoice, IsNotedAs, most_rows}
+use Rattle.fax_bits.specs.Reading.{read}
+use Rattle.fax_page.specs.Lines.{IsCause, IsLine, read_codes, white_row}
+use Rattle.fax_page.specs.Strip.{AreLines, row_bits, HasOtherCodes, HasOtherChoice, IsNotedAs, most_rows}
 use Rattle.fax_page.specs.views.Strip.{IsStrip, IsNotedUncounted, IsNotesFault}
 use Rattle.fax_page.proofs.StripLaws.{EndsAt, no_rows}
 use Rattle.fax_page.proofs.UncountedLaws.{all_lines, line_of, of_rows}
@@ -30,38 +31,37 @@ use Rattle.fax_page.proofs.FirstCodeLemmas.{line_begun}
 use Rattle.fax_page.proofs.BegunLemmas.{one_begun}
 
 -- what follows the codes that T.4 chooses is what follows the row
-module _ (one : OneDimensionalBitsAreOneRow) (two : TwoDimensionalBitsAreOneRow) where
+module _ (one : OneDimensionalBitsAreRead) (two : TwoDimensionalBitsAreRead) where
   -- codes that were read, and whether those that T.4 chooses begin where they do
   pub codes_read : (form : StripForm) (reference row : List Colour) (codes rest put : List Bool) (dimension : Dimension)
       (chosen : Bool)
       → HasWidth row → length row ≡ form.width → length reference ≡ form.width
-      → IsRowIn dimension form.width reference codes row rest
+      → read_codes dimension form.width reference codes ≡ read row rest
       → put ≡ row_bits dimension reference row → IsTrue chosen ↔ BeginsWith codes put
       → AreCodesRead form dimension reference codes row rest chosen
-  codes_read form reference row codes rest put dimension chosen fits is_width reference_width read put_is begins =
+  codes_read form reference row codes rest put dimension chosen fits is_width reference_width coded put_is begins =
       grind arith
 
 module _ (reads : (form : StripForm) (i : ℕ) (reference : List Colour) → ReadsLinesOneWay form i reference) where
-  -- a row is chosen by one reading of it where it is by another, and the same rest follows
-  record IsSameLine (form : StripForm) (i : ℕ) (reference row : List Colour) (b rest remaining : List Bool)
-      (line : IsLine form i reference b row rest)
-      (other : IsLine form i reference b row remaining) : Type 0 where
-    same_after : rest ≡ remaining
-    chosen : IsChosen line.dimension reference line.codes row rest
-        → IsChosen other.dimension reference other.codes row remaining
-
-  same_line : (form : StripForm) (i : ℕ) (reference row : List Colour) (b rest remaining : List Bool)
-      (line : IsLine form i reference b row rest)
-      (other : IsLine form i reference b row remaining) → IsSameLine form i reference row b rest remaining line other
-  same_line form i reference row b rest remaining line other =
-      let start = one_begun form.coding i b _ _ _ _ line.start other.start in
-      let after = ((reads form i reference).line.one_answer b row row rest remaining line other).1 in
-      record {
-        same_after = after;
-        chosen = λ is.
-            sym start.1 ∙ is ∙ ap (λ (d : Dimension). row_bits d reference row ++ rest) start.0
-            ∙ ap (λ c. row_bits other.dimension reference row ++ c) after;
-      }
+  -- whether a row that is read is chosen
+  other_codes : (form : StripForm) (i : ℕ) (reference row : List Colour) (b rest remaining : List Bool)
+      (other now : Bool)
+      → IsLineNoted form i reference b row rest other now → IsLine form i reference b row remaining
+      → HasOtherCodes form i reference b row remaining
+      → (rest ≡ remaining) × (now ≡ true)
+  other_codes form i reference row b rest remaining other now noted line choice =
+      let after = ((reads form i reference).line.one_answer b row row rest remaining noted.line line).1 in
+      let start = one_begun form.coding i b _ _ _ _ noted.start choice.2 in
+      (
+        after,
+        marks now noted.noted.none (λ is. choice.3 (
+          sym start.1 ∙ is ∙ ap (λ (d : Dimension). row_bits d reference row ++ rest) start.0
+          ∙ ap (λ c. row_bits choice.0 reference row ++ c) after)),
+      )
+    where
+      marks : (now : Bool) → (now ≡ false → IsChosen noted.dimension reference noted.codes row rest)
+          → (IsChosen noted.dimension reference noted.codes row rest → ⊥) → now ≡ true
+      marks now none other_choice = grind arith
 
   -- one more row: whether some row is coded otherwise is true then, where this one is
   pub row_noted : (form : StripForm) (b left rest : List Bool) (i : ℕ) (reference row : List Colour) (other now : Bool)
@@ -76,7 +76,8 @@ module _ (reads : (form : StripForm) (i : ℕ) (reference : List Colour) → Rea
         (so_far.lines (row ∷ more) end after (rest, due, noted.line, lines));
     found = λ is more. onto more (elim (noted.noted.found is) [
       | inl before ↦ so_far.found before (row ∷ more)
-      | inr other_choice ↦ so_far.onward (row ∷ more) (rest, noted.line, inl other_choice)
+      | inr other_choice ↦ so_far.onward (row ∷ more)
+          (rest, noted.line, inl (noted.dimension, noted.codes, noted.start, other_choice))
     ]);
     onward = λ more has. onto more (so_far.onward (row ∷ more) (rest, noted.line, inr has));
     back = λ more has.
@@ -84,10 +85,11 @@ module _ (reads : (form : StripForm) (i : ℕ) (reference : List Colour) → Rea
         (append_assoc so_far.before (row ∷ []) more) has)) [
           | inl is ↦ inl (noted.noted.kept is)
           | inr here ↦
-              let same = same_line form i reference row left rest here.0 noted.line here.1 in
+              let same = ((reads form i reference).line.one_answer left row row rest here.0 noted.line here.1).1 in
               elim here.2 [
-                | inl other_choice ↦ inl (marks now noted.noted.none (λ is. other_choice (same.chosen is)))
-                | inr after ↦ inr (subst (λ c. HasOtherChoice form (i + 1) row c more) (sym same.same_after) after)
+                | inl other_choice ↦
+                    inl (other_codes form i reference row left rest here.0 other now noted here.1 other_choice).1
+                | inr after ↦ inr (subst (λ c. HasOtherChoice form (i + 1) row c more) (sym same) after)
               ]
         ];
   }
@@ -97,10 +99,6 @@ module _ (reads : (form : StripForm) (i : ℕ) (reference : List Colour) → Rea
       onto more has =
           subst (λ rows. HasOtherChoice form 0 (white_row form.width) b rows)
           (sym (append_assoc so_far.before (row ∷ []) more)) has
-
-      marks : (now : Bool) → (now ≡ false → IsChosen noted.line.dimension reference noted.line.codes row rest)
-          → (IsChosen noted.line.dimension reference noted.line.codes row rest → ⊥) → now ≡ true
-      marks now none other_choice = grind arith
 
 -- no row was read
 pub none_read : (form : StripForm) (b left : List Bool) (reference : List Colour) → reference ≡ white_row form.width
@@ -122,21 +120,25 @@ codes_seen chosen other is = record { kept = λ h. h; found = λ h. inl h; none 
 -- a row whose codes were read after what stands before them
 pub line_noted : (form : StripForm) (i : ℕ) (reference row : List Colour) (b codes rest : List Bool)
     (dimension : Dimension)
-    (other now : Bool) → 0 < form.width → IsStart form.coding i b (Ok (dimension, codes))
+    (other now : Bool) → 0 < form.width → IsStart form.coding i b (read dimension codes)
     → AreCodesNoted form dimension reference codes row rest other now
     → IsLineNoted form i reference b row rest other now
-unfolding line_begun
-line_noted form i reference row b codes rest dimension other now some start read = record {
-  line = line_begun form i reference row b codes rest dimension some start read.coded;
-  noted = read.noted;
+line_noted form i reference row b codes rest dimension other now some start noted = record {
+  line = line_begun form i reference row b codes rest dimension some start noted.coded;
+  dimension = dimension;
+  codes = codes;
+  start = start;
+  noted = noted.noted;
 }
 
 -- and one whose codes cannot be read
 pub codes_fault : (form : StripForm) (i : ℕ) (reference : List Colour) (b codes : List Bool) (dimension : Dimension)
     (fault : NotesFault)
-    → IsStart form.coding i b (Ok (dimension, codes)) → IsCodesFault form i dimension reference codes fault
+    → IsStart form.coding i b (read dimension codes) → IsCodesFault form i dimension reference codes fault
     → IsLineFault form i reference b fault
-codes_fault form i reference b codes dimension fault start is = grind (arith, cause_in_codes)
+codes_fault form i reference b codes dimension Memory start is = tt
+codes_fault form i reference b codes dimension (Strip row fault) start is =
+    (is.0, cause_in_codes form i reference b dimension codes is.1 fault start is.3 is.2)
 
 -- the rows so far, and an end after them
 stopped : (form : StripForm) (b left : List Bool) (i : ℕ) (reference : List Colour) (other : Bool)

@@ -1,8 +1,9 @@
 -- After a row of a strip stands a rest of the bits that it began in.
 use Rattle.fax_page.proofs.StartLaws.{IsStart}
-use Rattle.std.proofs.Common.{arith, ◌≡◌, ℕ, ◌+◌, ◌*◌, ◌≤◌, List, [], length, take, drop, Bool, sym, Ok}
+use Rattle.std.proofs.Common.{arith, ◌≡◌, ℕ, ◌+◌, ◌*◌, ◌≤◌, List, [], length, take, drop, Bool, sym}
 use Rattle.std.proofs.Common.{length-drop}
 use Rattle.std.proofs.lemmas.List.{take-append-drop}
+use Rattle.fax_bits.specs.Reading.{read}
 use Rattle.fax_bits.specs.declared.Colour.{Colour}
 use Rattle.fax_bits.specs.Bits.{bits}
 use Rattle.fax_bits.specs.views.Source.{Source, source_of}
@@ -17,7 +18,7 @@ use Rattle.fax_page.proofs.FrontLemmas.{EndsWith, among, answer_of, onwards}
 
 -- so many bits stand before the codes of a row that begins
 pub start_among : (coding : Coding) (i : ℕ) (b : List Bool) (dimension : Dimension) (codes : List Bool)
-    → IsStart coding i b (Ok (dimension, codes)) → (n : ℕ) × (n ≤ length b) × (drop n b ≡ codes)
+    → IsStart coding i b (read dimension codes) → (n : ℕ) × (n ≤ length b) × (drop n b ≡ codes)
 start_among coding i b dimension codes begun =
     among b codes (answer_of dimension codes begun (start_front [] coding i b)).0
 

@@ -3,14 +3,15 @@
 use Rattle.fax_page.specs.code.Starts.{BeginsBelowEleven}
 use Rattle.fax_page.proofs.StartLaws.{IsStart}
 use Rattle.std.proofs.Common.{arith, ◌≡◌, ℕ, ◌+◌, ◌-◌, List, [], ◌∷◌, ◌++◌, map, Bool, Some, None, refl}
-use Rattle.std.proofs.Common.{ap, inl, inr, Err, replicate, suc, true, false, ◌≤◌, ◌∙◌}
+use Rattle.std.proofs.Common.{ap, inl, inr, replicate, suc, true, false, ◌≤◌, ◌∙◌}
 use Rattle.std.proofs.lemmas.Bool.Decides.{nat_tests}
 use Rattle.std.specs.Prelude.{◌≢◌, ◌<◌, Option, option_map, MatchOption}
 use Rattle.fax_bits.specs.declared.Colour.{Colour}
 use Rattle.fax_rows.specs.declared.RowFault.{RowFault}
 use Rattle.fax_page.specs.declared.StripFault.TheVariants.{MissingEol}
 use Rattle.fax_page.specs.Lines.{Coding, Dimension, IsCause, IsLine}
-use Rattle.fax_page.specs.Lines.{IsStopInCodes, Mh, Mmr, Mr}
+use Rattle.fax_bits.specs.Reading.{failed}
+use Rattle.fax_page.specs.Lines.{Mh, Mmr, Mr}
 use Rattle.fax_page.specs.Lines.{StripFault, StripForm, strip_fault, white_row}
 use Rattle.fax_page.specs.Salvage.{AreSalvaged, GoesOnAfter, IsEolDue, IsReadOver, SalvagedRow, after_eol, found}
 use Rattle.fax_page.specs.Salvage.{lost, next_due, unended}
@@ -19,20 +20,23 @@ use Rattle.fax_page.specs.laws.Salvage.{FindsRowsBeforeFaults, LostBitsDoNotMatt
 use Rattle.fax_page.specs.Lines.{read_start}
 use Rattle.fax_page.specs.Salvage.{sought_from}
 use Rattle.fax_page.proofs.BegunLemmas.{one_start}
-use Rattle.fax_page.proofs.SalvageLaws.{begins_with_eol, eol_is_missing}
+use Rattle.fax_page.proofs.LineParts.{CauseParts, IsStopInCodes, cause_parts}
+use Rattle.fax_page.proofs.SalvageLaws.{begins_with_eol, eol_is_missing, none_begins}
 use Rattle.fax_page.proofs.SalvageLemmas.{at_one}
 
 -- another fault than a missing EOL, where an EOL is due, is none of bits below eleven zeros
 none_missing : (form : StripForm) (i : ℕ) (row : List Colour) (rest : List Bool) (fault : StripFault)
     → fault ≢ MissingEol → IsCause form (i + 1) row rest fault → IsEolDue form i → BeginsBelowEleven rest → ⊥
-none_missing form i row rest fault other (inl stop) due below =
-    let same = one_start form.coding (i + 1) rest _ _ stop (eol_is_missing form.coding i rest due.0 below) in
-    other cc
-none_missing form i row rest fault other (inr (dimension, codes, begun, stop)) due below =
-    begins_with_eol form.coding i rest codes dimension due.0 begun below
+none_missing form i row rest fault other cause due below = by (cause_parts form (i + 1) row rest fault cause)
+  where
+    by : CauseParts form (i + 1) row rest fault → ⊥
+    by (inl stop) =
+        let same = one_start form.coding (i + 1) rest _ _ stop (eol_is_missing form.coding i rest due.0 below) in
+        other (cc (same))
+    by (inr (dimension, codes, begun, stop)) = begins_with_eol form.coding i rest codes dimension due.0 begun below
 
 -- an EOL is missing where one is due
-eol_missing : (coding : Coding) (i : ℕ) (rest : List Bool) → IsStart coding i rest (Err MissingEol)
+eol_missing : (coding : Coding) (i : ℕ) (rest : List Bool) → IsStart coding i rest (failed MissingEol)
     → (coding ≢ Mmr) × BeginsBelowEleven rest
 eol_missing coding i rest stop = grind arith
 
@@ -42,16 +46,17 @@ no_fault_of_codes cause is = grind arith
 -- codes never stop with it
 none_in_codes : (dimension : Dimension) (width : ℕ) (reference : List Colour) (codes : List Bool)
     → IsStopInCodes dimension width reference codes MissingEol → ⊥
-none_in_codes dimension width reference codes (inl (after, is, marker)) = cc
-none_in_codes dimension width reference codes (inr (inl (n, few, is, ends))) = cc
-none_in_codes dimension width reference codes (inr (inr (below, cause, in_codes, is))) = no_fault_of_codes cause is
+none_in_codes dimension width reference codes (inl (inl (after, is, marker))) = cc
+none_in_codes dimension width reference codes (inl (inr (n, few, is, ends))) = cc
+none_in_codes dimension width reference codes (inr (below, cause, in_codes, is)) = no_fault_of_codes cause is
 
 lacks_eol : (form : StripForm) (i : ℕ) (row : List Colour) (rest : List Bool) → IsCause form i row rest MissingEol
     → (form.coding ≢ Mmr) × BeginsBelowEleven rest
-lacks_eol form i row rest (inl stop) =
-    eol_missing form.coding i rest stop
-lacks_eol form i row rest (inr (dimension, codes, begun, stop)) =
-    absurd (none_in_codes dimension form.width row codes stop)
+lacks_eol form i row rest cause = by (cause_parts form i row rest MissingEol cause)
+  where
+    by : CauseParts form i row rest MissingEol → (form.coding ≢ Mmr) × BeginsBelowEleven rest
+    by (inl stop) = eol_missing form.coding i rest stop
+    by (inr (dimension, codes, begun, stop)) = absurd (none_in_codes dimension form.width row codes stop)
 
 -- a row over the one before it, which is found
 over : (form : StripForm) (i : ℕ) (reference : List Colour) (b : List Bool) (row : List Colour) (rest : List Bool)
@@ -65,7 +70,7 @@ module _ (salvages : SalvagesStripsOneWay) where
   ended form i row rest [] fault left other (same, low, cause) due below =
       none_missing form i row rest fault other cause due below
   ended form i row rest (next ∷ rows) fault left other (after, low, line, lines) due below =
-      begins_with_eol form.coding i rest line.codes line.dimension due.0 line.start below
+      none_begins form i row rest next after line due.0 below
 
   all : (form : StripForm) (i : ℕ) (reference : List Colour) (b : List Bool) (rows : List (List Colour))
       (fault : StripFault) (left : List Bool) → fault ≢ MissingEol → AreLines form i reference b rows (Some fault) left
@@ -89,9 +94,9 @@ module _ (salvages : SalvagesStripsOneWay) where
       → AreLines form (i + 1) row rest (rows ++ last ∷ []) (Some MissingEol) left → IsEolDue form i
       → BeginsBelowEleven rest → ⊥
   ended_before_last form i row rest [] last left (after, low, line, lines) due below =
-      begins_with_eol form.coding i rest line.codes line.dimension due.0 line.start below
+      none_begins form i row rest last after line due.0 below
   ended_before_last form i row rest (next ∷ rows) last left (after, low, line, lines) due below =
-      begins_with_eol form.coding i rest line.codes line.dimension due.0 line.start below
+      none_begins form i row rest next after line due.0 below
 
   -- what is left after a lost row
   goes_on : (form : StripForm) (i : ℕ) (b : List Bool) (fault : StripFault) → i + 1 < form.rows

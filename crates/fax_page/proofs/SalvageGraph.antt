@@ -2,12 +2,12 @@
 use Rattle.fax_page.specs.code.Starts.{BeginsBelowEleven}
 use Rattle.fax_page.proofs.StartLaws.{IsStart}
 use Rattle.std.proofs.Common.{arith, ◌≡◌, ◌≢◌, ℕ, zero, suc, ◌+◌, ◌-◌, ◌<◌, List, [], ◌∷◌, Bool, true, false, refl}
-use Rattle.std.proofs.Common.{sym, ap, ◌∙◌, inl, inr, Option, Some, None, Result, Ok, Err, replicate}
-use Rattle.std.specs.Prelude.{MatchOption, MatchResult, nat_lt, if◌then◌else◌, ◌&&◌}
+use Rattle.std.proofs.Common.{sym, ap, ◌∙◌, inl, inr, Option, Some, None, replicate}
+use Rattle.std.specs.Prelude.{MatchOption, nat_lt, if◌then◌else◌, ◌&&◌}
 use Rattle.std.proofs.lemmas.Bool.Decides.{nat_tests}
 use Rattle.fax_bits.specs.declared.Colour.{Colour}
-use Rattle.fax_rows.proofs.RowLaws.{read_is}
-use Rattle.fax_rows.proofs.StepGraph.{is_false}
+use Rattle.fax_bits.specs.Reading.{Read, read, failed}
+use Rattle.fax_rows.proofs.StepReadLemmas.{is_false}
 use Rattle.fax_page.specs.declared.Coding.{Coding}
 use Rattle.fax_page.specs.declared.Coding.TheVariants.{Mh, Mr, Mmr}
 use Rattle.fax_page.specs.declared.Dimension.{Dimension}
@@ -15,21 +15,20 @@ use Rattle.fax_page.specs.declared.Dimension.TheVariants.{OneDimensional, TwoDim
 use Rattle.fax_page.specs.declared.StripFault.{StripFault}
 use Rattle.fax_page.specs.declared.StripFault.TheVariants.{MissingEol}
 use Rattle.fax_page.specs.declared.StripForm.{StripForm}
-use Rattle.fax_page.specs.Lines.{IsCause, IsLine, NextOne}
+use Rattle.fax_page.specs.Lines.{NextOne}
 use Rattle.fax_page.specs.Lines.{ends_line, in_code, next_one, not_there, read_start}
 use Rattle.fax_page.specs.Lines.{white_row}
 use Rattle.fax_page.specs.Salvage.{AreSalvaged, BeginsTwoDimensional, GoesOnAfter, IsEolDue, IsLostFor, IsReadOver}
 use Rattle.fax_page.specs.Salvage.{sought_from, SalvagedRow, found, lost, next_due, unended}
-use Rattle.fax_page.specs.reads.Lines.{read_line}
+use Rattle.fax_page.specs.Lines.{read_line}
 use Rattle.fax_page.specs.reads.Salvage.{after_lost, is_in_code, cause_over, from_eol, has_eols, lacks_eol}
 use Rattle.fax_page.specs.reads.Salvage.{read_over, row_and_more, salvage_rows, unless}
-use Rattle.fax_page.specs.laws.StripGraphs.{StripsAreReadByFunctions}
 
 abbrev pub Start : Type 0
-Start = Result (Dimension × List Bool) StripFault
+Start = Read Dimension StripFault
 
 abbrev pub Line : Type 0
-Line = Result (List Colour × List Bool) StripFault
+Line = Read (List Colour) StripFault
 
 -- whether an EOL is missing after a row
 begins_where : (b : List Bool) (one : NextOne) → next_one 0 b ≡ one → is_in_code one ≡ true → BeginsBelowEleven b
@@ -74,29 +73,27 @@ lacks_where form i rest is =
       begins_where rest (next_one 0 rest) refl each.2,
     )
 
-abbrev dimension_of : Start → Dimension
-dimension_of (Ok start) = start.0
-dimension_of (Err fault) = OneDimensional
+-- a row that is read, or lost
+abbrev pub IsOver : StripForm → ℕ → Option StripFault → List Colour → List Bool → Line → Type 0
+IsOver form i before reference b (read row rest) = IsReadOver form i before reference b row rest
+IsOver form i before reference b (failed fault) = IsLostFor form i before reference b fault
 
--- a row that is read, or lost, by how it begins
+-- by how it begins
 pub by_start : (form : StripForm) (i : ℕ) (before : Option StripFault) (reference : List Colour) (b : List Bool)
-    (start : Start) → IsStart form.coding i b start → (r : Line)
-    → MatchResult r (λ line. IsLine form i reference b line.0 line.1) (IsCause form i reference b)
-    → MatchResult (unless (cause_over before start) r) (λ line. IsReadOver form i before reference b line.0 line.1)
-    (IsLostFor form i before reference b)
-by_start form i None reference b start same (Ok line) read =
-    record { line = read; alone = λ some. absurd (some refl) }
-by_start form i None reference b start same (Err fault) cause = inr (inl refl, cause)
-by_start form i (Some before) reference b (Ok (TwoDimensional, codes)) same r read = inl (refl, (codes, same))
-by_start form i (Some before) reference b (Ok (OneDimensional, codes)) same (Ok line) read =
-    record { line = read; alone = λ some. ap dimension_of (sym read.start ∙ same) }
-by_start form i (Some before) reference b (Ok (OneDimensional, codes)) same (Err fault) cause =
-    let no_two : BeginsTwoDimensional form.coding i b → ⊥ = λ two.
-    let differ : TwoDimensional ≡ OneDimensional = ap dimension_of (sym two.1 ∙ same) in absurd (cc differ) in
+    (start : Start) → IsStart form.coding i b start → (r : Line) → read_line form i reference b ≡ r
+    → IsOver form i before reference b (unless (cause_over before start) r)
+by_start form i None reference b start same (read row rest) line =
+    record { line = line; alone = λ some. absurd (some refl) }
+by_start form i None reference b start same (failed fault) cause = inr (inl refl, cause)
+by_start form i (Some before) reference b (read TwoDimensional codes) same r line = inl (refl, (codes, same))
+by_start form i (Some before) reference b (read OneDimensional codes) same (read row rest) line =
+    record { line = line; alone = λ some two. let begun = two.1 in cc (same, begun) }
+by_start form i (Some before) reference b (read OneDimensional codes) same (failed fault) cause =
+    let no_two : BeginsTwoDimensional form.coding i b → ⊥ = λ two. let begun = two.1 in absurd (cc (same, begun)) in
     inr (inr no_two, cause)
-by_start form i (Some before) reference b (Err stop) same (Ok line) read =
-    let begun = read.start in absurd (cc (same, begun))
-by_start form i (Some before) reference b (Err stop) same (Err fault) cause =
+by_start form i (Some before) reference b (failed stop) same (read row rest) line =
+    record { line = line; alone = λ some two. let begun = two.1 in cc (same, begun) }
+by_start form i (Some before) reference b (failed stop) same (failed fault) cause =
     let no_two : BeginsTwoDimensional form.coding i b → ⊥ = λ two. let begun = two.1 in absurd (cc (same, begun)) in
     inr (inr no_two, cause)
 
@@ -135,133 +132,126 @@ module _ (n : ℕ) (form : StripForm) (i : ℕ) (before : Option StripFault) (re
       → lacks_eol form i rest ≡ missing
       → AreSalvaged form i before reference b
       (if missing then (unended row ∷ after_lost n form i b more MissingEol) else (found row ∷ more None row rest))
-  by_end row rest read true at =
+  by_end row rest over true at =
       let missing = lacks_where form i rest at in (
         rest,
-        read,
+        over,
         missing.0,
         missing.1,
         goes_on n form i b more MissingEol (omega (arith, due))
             (λ next. are (Some MissingEol) (white_row form.width) next),
       )
-  by_end row rest read false at = (
+  by_end row rest over false at = (
     rest,
     omega (arith, due),
-    read,
+    over,
     (λ eol below. let missing = lacks form i rest eol below in absurd (cc (at, missing))),
     are None row rest,
   )
 
-  by_line : (r : Line)
-      → MatchResult r (λ line. IsReadOver form i before reference b line.0 line.1) (IsLostFor form i before reference b)
+  by_line : (r : Line) → IsOver form i before reference b r
       → AreSalvaged form i before reference b (row_and_more n form i b more r)
-  by_line (Ok (row, rest)) read = by_end row rest read (lacks_eol form i rest) refl
-  by_line (Err fault) cause = (
+  by_line (read row rest) over = by_end row rest over (lacks_eol form i rest) refl
+  by_line (failed fault) cause = (
     omega (arith, due),
     cause,
     goes_on n form i b more fault (omega (arith, due)) (λ next. are (Some fault) (white_row form.width) next),
   )
 
-module _ (strips : StripsAreReadByFunctions) where
-  -- a row that is read, or lost, is defined so
-  pub over_is : (form : StripForm) (i : ℕ) (before : Option StripFault) (reference : List Colour) (b : List Bool)
-      → MatchResult (read_over form i before reference b)
-      (λ line. IsReadOver form i before reference b line.0 line.1) (IsLostFor form i before reference b)
-  over_is form i before reference b =
-      by_start form i before reference b (read_start form.coding i b) refl
-      (read_line form i reference b) (read_is (strips.line form i reference) b)
+-- a row that is read, or lost, is defined so
+pub over_is : (form : StripForm) (i : ℕ) (before : Option StripFault) (reference : List Colour) (b : List Bool)
+    → IsOver form i before reference b (read_over form i before reference b)
+over_is form i before reference b =
+    by_start form i before reference b (read_start form.coding i b) refl (read_line form i reference b) refl
 
-  -- and what is defined is read
-  pub over_of : (form : StripForm) (i : ℕ) (before : Option StripFault) (reference : List Colour) (b : List Bool)
-      (row : List Colour) (rest : List Bool) → IsReadOver form i before reference b row rest
-      → read_over form i before reference b ≡ Ok (row, rest)
-  over_of form i None reference b row rest over = ((strips.line form i reference).answer b row rest).0 over.line
-  over_of form i (Some before) reference b row rest over =
-      ap (λ start. unless (cause_over (Some before) start) (read_line form i reference b))
-      over.line.start
-      ∙ ap (λ dimension. unless (cause_over (Some before) (Ok (dimension, over.line.codes)))
-      (read_line form i reference b))
-      (over.alone (λ none. cc))
-      ∙ ((strips.line form i reference).answer b row rest).0 over.line
+no_cause : (form : StripForm) (i : ℕ) (before : StripFault) (b : List Bool) (start : Start)
+    → IsStart form.coding i b start → (BeginsTwoDimensional form.coding i b → ⊥)
+    → cause_over (Some before) start ≡ None
+no_cause form i before b (failed fault) is not_two = refl
+no_cause form i before b (read OneDimensional codes) is not_two = refl
+no_cause form i before b (read TwoDimensional codes) is not_two = absurd (not_two (codes, is))
 
-  no_cause : (form : StripForm) (i : ℕ) (before : StripFault) (b : List Bool) (start : Start)
-      → IsStart form.coding i b start → (BeginsTwoDimensional form.coding i b → ⊥)
-      → cause_over (Some before) start ≡ None
-  no_cause form i before b (Err fault) is not_two = refl
-  no_cause form i before b (Ok (OneDimensional, codes)) is not_two = refl
-  no_cause form i before b (Ok (TwoDimensional, codes)) is not_two = absurd (not_two (codes, is))
+-- and what is defined is read
+pub over_of : (form : StripForm) (i : ℕ) (before : Option StripFault) (reference : List Colour) (b : List Bool)
+    (row : List Colour) (rest : List Bool) → IsReadOver form i before reference b row rest
+    → read_over form i before reference b ≡ read row rest
+over_of form i None reference b row rest over = over.line
+over_of form i (Some before) reference b row rest over =
+    ap (λ cause. unless cause (read_line form i reference b))
+    (no_cause form i before b (read_start form.coding i b) refl (over.alone (λ none. cc (none))))
+    ∙ over.line
 
-  pub lost_of : (form : StripForm) (i : ℕ) (before : Option StripFault) (reference : List Colour) (b : List Bool)
-      (fault : StripFault) → IsLostFor form i before reference b fault
-      → read_over form i before reference b ≡ Err fault
-  lost_of form i before reference b fault (inl (is, (codes, two))) =
-      ap (λ cause. unless (cause_over cause (read_start form.coding i b)) (read_line form i reference b)) is
-      ∙ ap (λ start. unless (cause_over (Some fault) start) (read_line form i reference b))
-      two
-  lost_of form i None reference b fault (inr (_, cause)) = ((strips.line form i reference).fault b fault).0 cause
-  lost_of form i (Some before) reference b fault (inr (inl none, cause)) = absurd (cc none)
-  lost_of form i (Some before) reference b fault (inr (inr not_two, cause)) =
-      ap (λ over. unless over (read_line form i reference b))
-      (no_cause form i before b (read_start form.coding i b) refl not_two)
-      ∙ ((strips.line form i reference).fault b fault).0 cause
+pub lost_of : (form : StripForm) (i : ℕ) (before : Option StripFault) (reference : List Colour) (b : List Bool)
+    (fault : StripFault) → IsLostFor form i before reference b fault
+    → read_over form i before reference b ≡ failed fault
+lost_of form i before reference b fault (inl (is, (codes, two))) =
+    ap (λ cause. unless (cause_over cause (read_start form.coding i b)) (read_line form i reference b)) is
+    ∙ ap (λ start. unless (cause_over (Some fault) start) (read_line form i reference b))
+    two
+lost_of form i None reference b fault (inr (_, cause)) = cause
+lost_of form i (Some before) reference b fault (inr (inl none, cause)) = absurd (cc none)
+lost_of form i (Some before) reference b fault (inr (inr not_two, cause)) =
+    ap (λ over. unless over (read_line form i reference b))
+    (no_cause form i before b (read_start form.coding i b) refl not_two)
+    ∙ cause
 
-  pub rows_are : (n : ℕ) (form : StripForm) (i : ℕ) (before : Option StripFault) (reference : List Colour)
-      (b : List Bool) → i + n ≡ form.rows
-      → AreSalvaged form i before reference b (salvage_rows n form i before reference b)
-  rows_are zero form i before reference b due = omega (arith, due)
-  rows_are (suc n) form i before reference b due =
-      by_line n form i before reference b (λ before row rest. salvage_rows n form (i + 1) before row rest) due
-      (λ before row rest. rows_are n form (i + 1) before row rest (omega (arith, due)))
-      (read_over form i before reference b) (over_is form i before reference b)
+pub rows_are : (n : ℕ) (form : StripForm) (i : ℕ) (before : Option StripFault) (reference : List Colour)
+    (b : List Bool) → i + n ≡ form.rows
+    → AreSalvaged form i before reference b (salvage_rows n form i before reference b)
+rows_are zero form i before reference b due = omega (arith, due)
+rows_are (suc n) form i before reference b due =
+    by_line n form i before reference b (λ before row rest. salvage_rows n form (i + 1) before row rest) due
+    (λ before row rest. rows_are n form (i + 1) before row rest (omega (arith, due)))
+    (read_over form i before reference b) (over_is form i before reference b)
 
-  -- what follows a lost row
-  after_of : (n : ℕ) (form : StripForm) (i : ℕ) (b : List Bool) (fault : StripFault) (rows : List SalvagedRow)
-      → i + suc n ≡ form.rows
-      → ((due : List Bool) → AreSalvaged form (i + 1) (Some fault) (white_row form.width) due rows
-      → salvage_rows n form (i + 1) (Some fault) (white_row form.width) due ≡ rows)
-      → GoesOnAfter form i b fault (λ due. AreSalvaged form (i + 1) (Some fault) (white_row form.width) due rows) rows
-      → after_lost n form i b (λ before row rest. salvage_rows n form (i + 1) before row rest) fault ≡ rows
-  after_of n form i b fault rows count later (from, sought, after) =
-      ap (λ f. from_eol n form more fault (next_due form.coding f)) sought
-      ∙ at_due (next_due form.coding from) after
-    where
-      more : More
-      more before row rest = salvage_rows n form (i + 1) before row rest
+-- what follows a lost row
+after_of : (n : ℕ) (form : StripForm) (i : ℕ) (b : List Bool) (fault : StripFault) (rows : List SalvagedRow)
+    → i + suc n ≡ form.rows
+    → ((due : List Bool) → AreSalvaged form (i + 1) (Some fault) (white_row form.width) due rows
+    → salvage_rows n form (i + 1) (Some fault) (white_row form.width) due ≡ rows)
+    → GoesOnAfter form i b fault (λ due. AreSalvaged form (i + 1) (Some fault) (white_row form.width) due rows) rows
+    → after_lost n form i b (λ before row rest. salvage_rows n form (i + 1) before row rest) fault ≡ rows
+after_of n form i b fault rows count later (from, sought, after) =
+    ap (λ f. from_eol n form more fault (next_due form.coding f)) sought
+    ∙ at_due (next_due form.coding from) after
+  where
+    more : More
+    more before row rest = salvage_rows n form (i + 1) before row rest
 
-      at_due : (o : Option (List Bool)) → MatchOption o (rows ≡ replicate (form.rows - (i + 1)) (lost fault))
-          (λ due. AreSalvaged form (i + 1) (Some fault) (white_row form.width) due rows)
-          → from_eol n form more fault o ≡ rows
-      at_due None all =
-          let many : n ≡ form.rows - (i + 1) = omega (arith, count) in
-          ap (λ k. replicate k (lost fault)) many ∙ sym all
-      at_due (Some due) are = later due are
+    at_due : (o : Option (List Bool)) → MatchOption o (rows ≡ replicate (form.rows - (i + 1)) (lost fault))
+        (λ due. AreSalvaged form (i + 1) (Some fault) (white_row form.width) due rows)
+        → from_eol n form more fault o ≡ rows
+    at_due None all =
+        let many : n ≡ form.rows - (i + 1) = omega (arith, count) in
+        ap (λ k. replicate k (lost fault)) many ∙ sym all
+    at_due (Some due) are = later due are
 
-  pub rows_of : (n : ℕ) (form : StripForm) (i : ℕ) (before : Option StripFault) (reference : List Colour)
-      (b : List Bool) (rows : List SalvagedRow) → i + n ≡ form.rows → AreSalvaged form i before reference b rows
-      → salvage_rows n form i before reference b ≡ rows
-  rows_of zero form i before reference b [] count are = refl
-  rows_of zero form i before reference b (found row ∷ rows) count are = absurd (omega (arith, count, are.1))
-  rows_of zero form i before reference b (lost fault ∷ rows) count are = absurd (omega (arith, count, are.0))
-  rows_of zero form i before reference b (unended row ∷ rows) count are = absurd (omega (arith, count, are.2.1))
-  rows_of (suc n) form i before reference b [] count are = absurd (omega (arith, count, are))
-  rows_of (suc n) form i before reference b (found row ∷ rows) count (rest, low, over, ended, are) =
-      let more : More = λ before row rest. salvage_rows n form (i + 1) before row rest in
-      let none = is_false (lacks_eol form i rest) (λ is. let missing = lacks_where form i rest is in
-      ended missing.0 missing.1) in
-      ap (row_and_more n form i b more) (over_of form i before reference b row rest over)
-      ∙ ap (λ missing. if missing then unended row ∷ after_lost n form i b more MissingEol
-      else found row ∷ more None row rest) none
-      ∙ ap (λ all. found row ∷ all) (rows_of n form (i + 1) None row rest rows (omega (arith, count)) are)
-  rows_of (suc n) form i before reference b (lost fault ∷ rows) count (low, is, after) =
-      let more : More = λ before row rest. salvage_rows n form (i + 1) before row rest in
-      ap (row_and_more n form i b more) (lost_of form i before reference b fault is)
-      ∙ ap (λ all. lost fault ∷ all) (after_of n form i b fault rows count
-      (λ due are. rows_of n form (i + 1) (Some fault) (white_row form.width) due rows (omega (arith, count)) are) after)
-  rows_of (suc n) form i before reference b (unended row ∷ rows) count (rest, over, due, below, after) =
-      let more : More = λ before row rest. salvage_rows n form (i + 1) before row rest in
-      ap (row_and_more n form i b more) (over_of form i before reference b row rest over)
-      ∙ ap (λ missing. if missing then unended row ∷ after_lost n form i b more MissingEol
-      else found row ∷ more None row rest) (lacks form i rest due below)
-      ∙ ap (λ all. unended row ∷ all) (after_of n form i b MissingEol rows count
-      (λ due are. rows_of n form (i + 1) (Some MissingEol) (white_row form.width) due rows (omega (arith, count)) are)
-      after)
+pub rows_of : (n : ℕ) (form : StripForm) (i : ℕ) (before : Option StripFault) (reference : List Colour)
+    (b : List Bool) (rows : List SalvagedRow) → i + n ≡ form.rows → AreSalvaged form i before reference b rows
+    → salvage_rows n form i before reference b ≡ rows
+rows_of zero form i before reference b [] count are = refl
+rows_of zero form i before reference b (found row ∷ rows) count are = absurd (omega (arith, count, are.1))
+rows_of zero form i before reference b (lost fault ∷ rows) count are = absurd (omega (arith, count, are.0))
+rows_of zero form i before reference b (unended row ∷ rows) count are = absurd (omega (arith, count, are.2.1))
+rows_of (suc n) form i before reference b [] count are = absurd (omega (arith, count, are))
+rows_of (suc n) form i before reference b (found row ∷ rows) count (rest, low, over, ended, are) =
+    let more : More = λ before row rest. salvage_rows n form (i + 1) before row rest in
+    let none = is_false (lacks_eol form i rest) (λ is. let missing = lacks_where form i rest is in
+    ended missing.0 missing.1) in
+    ap (row_and_more n form i b more) (over_of form i before reference b row rest over)
+    ∙ ap (λ missing. if missing then unended row ∷ after_lost n form i b more MissingEol
+    else found row ∷ more None row rest) none
+    ∙ ap (λ all. found row ∷ all) (rows_of n form (i + 1) None row rest rows (omega (arith, count)) are)
+rows_of (suc n) form i before reference b (lost fault ∷ rows) count (low, is, after) =
+    let more : More = λ before row rest. salvage_rows n form (i + 1) before row rest in
+    ap (row_and_more n form i b more) (lost_of form i before reference b fault is)
+    ∙ ap (λ all. lost fault ∷ all) (after_of n form i b fault rows count
+    (λ due are. rows_of n form (i + 1) (Some fault) (white_row form.width) due rows (omega (arith, count)) are) after)
+rows_of (suc n) form i before reference b (unended row ∷ rows) count (rest, over, due, below, after) =
+    let more : More = λ before row rest. salvage_rows n form (i + 1) before row rest in
+    ap (row_and_more n form i b more) (over_of form i before reference b row rest over)
+    ∙ ap (λ missing. if missing then unended row ∷ after_lost n form i b more MissingEol
+    else found row ∷ more None row rest) (lacks form i rest due below)
+    ∙ ap (λ all. unended row ∷ all) (after_of n form i b MissingEol rows count
+    (λ due are. rows_of n form (i + 1) (Some MissingEol) (white_row form.width) due rows (omega (arith, count)) are)
+    after)

@@ -9,12 +9,13 @@ use Rattle.std.proofs.lemmas.List.{length-replicate}
 use Rattle.fax_bits.specs.declared.Colour.{Colour}
 use Rattle.fax_page.specs.declared.StripFault.TheVariants.{MissingEol}
 use Rattle.fax_page.specs.Lines.{Coding, Dimension, Mh, Mmr, Mr, start_by}
-use Rattle.fax_page.specs.Lines.{StripFault, StripForm, white_row}
+use Rattle.fax_page.specs.Lines.{IsLine, StripFault, StripForm, white_row}
 use Rattle.fax_page.specs.Salvage.{AreSalvaged, GoesOnAfter, IsEolDue}
 use Rattle.fax_page.specs.Salvage.{SalvagedRow, found, lost, next_due, unended}
 use Rattle.fax_page.specs.Strip.{AreLines}
 use Rattle.fax_page.specs.laws.Salvage.{FindsWholeStrips, SalvagesStripsOneWay}
-use Rattle.fax_page.specs.laws.StripGraphs.{StripsAreReadByFunctions}
+use Rattle.fax_bits.specs.Reading.{read, failed}
+use Rattle.fax_page.proofs.LineParts.{parts}
 use Rattle.fax_page.specs.reads.Salvage.{salvage_rows}
 use Rattle.fax_page.proofs.BegunLemmas.{one_start}
 use Rattle.fax_page.proofs.SalvageGraph.{rows_are, rows_of}
@@ -55,16 +56,16 @@ counted form i before reference b (unended row ∷ rows) (rest, over, due, below
           (Some MissingEol) (white_row form.width) due rows) after,
     )
 
-pub strips_are_salvaged : StripsAreReadByFunctions → SalvagesStripsOneWay
-strips_are_salvaged strips form i before reference b within =
+pub strips_are_salvaged : SalvagesStripsOneWay
+strips_are_salvaged form i before reference b within =
     let due : i + (form.rows - i) ≡ form.rows = omega (arith, within) in
     let rows = salvage_rows (form.rows - i) form i before reference b in
-    let are = rows_are strips (form.rows - i) form i before reference b due in
+    let are = rows_are (form.rows - i) form i before reference b due in
     record {
       rows = rows;
       are = are;
       count = counted form i before reference b rows are;
-      one = λ others other. sym (rows_of strips (form.rows - i) form i before reference b others due other);
+      one = λ others other. sym (rows_of (form.rows - i) form i before reference b others due other);
     }
 
 -- ---- strips that are read wholly
@@ -78,7 +79,7 @@ all_found_are_lines form i reference b (row ∷ rows) (rest, low, over, ended, a
 
 -- a code where an EOL is due
 pub eol_is_missing : (coding : Coding) (i : ℕ) (b : List Bool) → coding ≢ Mmr → BeginsBelowEleven b
-    → IsStart coding (i + 1) b (Err MissingEol)
+    → IsStart coding (i + 1) b (failed MissingEol)
 eol_is_missing Mh i b other below =
     let next : i + 1 ≡ suc i = omega arith in rw next (ap (start_by Mh (suc i) b) below)
 eol_is_missing Mr i b other below = ap (start_by Mr (i + 1) b) below
@@ -86,15 +87,21 @@ eol_is_missing Mmr i b other below = absurd (other refl)
 
 -- stands before no row that is read
 pub begins_with_eol : (coding : Coding) (i : ℕ) (b codes : List Bool) (dimension : Dimension) → coding ≢ Mmr
-    → IsStart coding (i + 1) b (Ok (dimension, codes)) → BeginsBelowEleven b → ⊥
+    → IsStart coding (i + 1) b (read dimension codes) → BeginsBelowEleven b → ⊥
 begins_with_eol coding i b codes dimension other begun below =
     let same = one_start coding (i + 1) b _ _ begun (eol_is_missing coding i b other below) in cc
+
+pub none_begins : (form : StripForm) (i : ℕ) (reference : List Colour) (b : List Bool) (row : List Colour)
+    (rest : List Bool) → IsLine form (i + 1) reference b row rest → form.coding ≢ Mmr → BeginsBelowEleven b → ⊥
+none_begins form i reference b row rest line other below =
+    let line = parts form (i + 1) reference b row rest line in
+    begins_with_eol form.coding i b line.codes line.dimension other line.start below
 
 no_eol_lacks : (form : StripForm) (i : ℕ) (row : List Colour) (rest : List Bool) (rows : List (List Colour))
     (left : List Bool) → AreLines form (i + 1) row rest rows None left → IsEolDue form i → BeginsBelowEleven rest → ⊥
 no_eol_lacks form i row rest [] left lines due below = omega (arith, lines.1, due.1)
 no_eol_lacks form i row rest (other ∷ rows) left (after, low, line, lines) due below =
-    begins_with_eol form.coding i rest line.codes line.dimension due.0 line.start below
+    none_begins form i row rest other after line due.0 below
 
 lines_are_all_found : (form : StripForm) (i : ℕ) (reference : List Colour) (b : List Bool) (rows : List (List Colour))
     (left : List Bool) → AreLines form i reference b rows None left

@@ -1,4 +1,5 @@
 -- The next EOL after a row that is lost.
+use Rattle.fax_bits.specs.Reading.{read, failed}
 use Rattle.fax_page.specs.code.Salvage.{IsSoughtFrom}
 use Rattle.fax_page.specs.code.Starts.{BeginsBelowEleven}
 use Rattle.fax_page.proofs.StartLaws.{IsStart}
@@ -28,11 +29,11 @@ pub not_below_zeros : (b : List Bool) → IsAllZeros b → BeginsBelowEleven b �
 not_below_zeros b all below = below_is_not_zeros b below all
 
 -- a row is coded in one dimension or in two
-pub not_two : (coding : Coding) (i : ℕ) (b codes : List Bool) → IsStart coding i b (Ok (OneDimensional, codes))
+pub not_two : (coding : Coding) (i : ℕ) (b codes : List Bool) → IsStart coding i b (read OneDimensional codes)
     → BeginsTwoDimensional coding i b → ⊥
 not_two coding i b codes one two = let same = one_begun coding i b _ _ _ _ one two.1 in cc
 
-pub not_begun : (coding : Coding) (i : ℕ) (b : List Bool) (fault : StripFault) → IsStart coding i b (Err fault)
+pub not_begun : (coding : Coding) (i : ℕ) (b : List Bool) (fault : StripFault) → IsStart coding i b (failed fault)
     → BeginsTwoDimensional coding i b → ⊥
 not_begun coding i b fault stop two = let same = one_start coding i b _ _ stop two.1 in cc
 
@@ -164,7 +165,7 @@ module _ (coding : Coding) (i : ℕ) (start from : Source) (n : ℕ) (other : co
 
 -- the EOL after a lost row's own EOL and tag bit
 pub after_own : (coding : Coding) (i : ℕ) (start from : Source) (dimension : Dimension) (found : Option ℕ)
-    → coding ≢ Mmr → IsStart coding i start.left (Ok (dimension, from.left)) → KeepsEnd start from
+    → coding ≢ Mmr → IsStart coding i start.left (read dimension from.left) → KeepsEnd start from
     → IsFirstEol from found → IsNextEol coding i start found
 after_own coding i start from dimension found other begun same_end first =
     let n = start_among coding i start.left dimension from.left begun in
@@ -175,14 +176,14 @@ after_own coding i start from dimension found other begun same_end first =
 
 -- the EOL after the place of a lost row that has none
 pub after_place : (coding : Coding) (i : ℕ) (start : Source) (found : Option ℕ) → coding ≢ Mmr
-    → IsStart coding i start.left (Err MissingEol) → IsFirstEol start found → IsNextEol coding i start found
+    → IsStart coding i start.left (failed MissingEol) → IsFirstEol start found → IsNextEol coding i start found
 after_place coding i start found other missing first =
     found_from coding i start start 0 other (omega arith) refl (omega arith)
     (ap (sought_from start.left) missing) found first
 
 -- the data end before a row's codes, and nothing is left
 pub after_end : (coding : Coding) (i : ℕ) (start : Source) (fault : StripFault) → fault ≢ MissingEol
-    → IsStart coding i start.left (Err fault) → IsNextEol coding i start None
+    → IsStart coding i start.left (failed fault) → IsNextEol coding i start None
 after_end coding i start fault other stop = ([], sought, nothing coding)
   where
     nothing : (coding : Coding) → next_due coding [] ≡ None
@@ -193,8 +194,8 @@ after_end coding i start fault other stop = ([], sought, nothing coding)
     sought : IsSoughtFrom coding i start.left []
     sought = ap (sought_from start.left) (by coding i (next_one 0 start.left) stop)
       where
-        by : (coding : Coding) (i : ℕ) (one : NextOne) → start_by coding i start.left one ≡ Err fault
-            → start_by coding i start.left one ≡ Err DataEnds
+        by : (coding : Coding) (i : ℕ) (one : NextOne) → start_by coding i start.left one ≡ failed fault
+            → start_by coding i start.left one ≡ failed DataEnds
         by coding i one is = grind arith
 
 -- no row of MMR has an EOL

@@ -1,4 +1,5 @@
 -- A row that is due after others begins among the bits of the strip.
+use Rattle.fax_bits.specs.Reading.{Read, read, failed}
 use Rattle.fax_page.specs.code.Salvage.{IsSoughtFrom}
 use Rattle.fax_page.specs.declared.StripFault.TheVariants.{DataEnds}
 use Rattle.std.proofs.Common.{Result, Ok, Err}
@@ -97,11 +98,10 @@ sought_among coding i b from sought = subst (IsRestOf b) sought (by (read_start 
     all_dropped [] = refl
     all_dropped (bit ∷ b) = all_dropped b
 
-    by : (start : Result (Dimension × List Bool) StripFault) → read_start coding i b ≡ start
-        → IsRestOf b (sought_from b start)
-    by (Ok (dimension, codes)) at = start_among coding i b dimension codes at
-    by (Err DataEnds) at = (length b, omega arith, all_dropped b)
-    by (Err fault) at = all_of b
+    by : (start : Read Dimension StripFault) → read_start coding i b ≡ start → IsRestOf b (sought_from b start)
+    by (read dimension codes) at = start_among coding i b dimension codes at
+    by (failed DataEnds) at = (length b, omega arith, all_dropped b)
+    by (failed fault) at = all_of b
 
 -- after a lost row
 lost_among : (old new : SalvageState) (fault : StripFault) (rows : ℕ) → IsAfterLost old fault rows new
@@ -135,5 +135,5 @@ pub due_rows_stand : ((form : StripForm) (i : ℕ) (reference : List Colour) →
 due_rows_stand reads old new Found finds due =
     (reads old.form old.row old.reference).rest old.due 0 new.reference new.due finds.read.line
 due_rows_stand reads old new (Lost fault rows) (within, is_lost, after) due = lost_among old new fault rows after due
-due_rows_stand reads old new (Unended rows) (row, rest, read, eol_due, below, after) due =
+due_rows_stand reads old new (Unended rows) (row, rest, over, eol_due, below, after) due =
     lost_among old new _ rows after due

@@ -4,16 +4,12 @@ use Rattle.std.proofs.Common.{◌≡◌, ℕ, ◌+◌, ◌<◌, List, Bool, true
 use Rattle.std.proofs.Common.{arith, inl, inr}
 use Rattle.std.specs.Prelude.{◌⊎◌, MatchOption}
 use Rattle.fax_bits.specs.declared.Colour.{Colour}
-use Rattle.fax_page.specs.Lines.{StripForm, StripFault, Dimension, OneDimensional, TwoDimensional, IsLine}
+use Rattle.fax_page.specs.Lines.{StripForm, StripFault, IsLine}
 use Rattle.fax_page.specs.Lines.{white_row}
 use Rattle.fax_page.specs.Salvage.{BeginsTwoDimensional, IsReadOver, IsEolDue, IsLostFor, next_due}
 use Rattle.fax_page.specs.views.Reader.{StripState, bits_left, ReadsRow, IsAdvance}
 use Rattle.fax_page.specs.views.Salvage.{SalvageState, IsAfterLost, FindsRow}
 use Rattle.fax_page.specs.code.Salvage.{PassesLost, SaysUnended, IsOverLost, salvaging}
-
-one_or_two : (dimension : Dimension) → (dimension ≡ OneDimensional) ⊎ (dimension ≡ TwoDimensional)
-one_or_two OneDimensional = inl refl
-one_or_two TwoDimensional = inr refl
 
 -- a row that is coded over no lost one
 read_over : (form : StripForm) (i : ℕ) (before : Option StripFault) (reference : List Colour) (b : List Bool)
@@ -22,13 +18,7 @@ read_over : (form : StripForm) (i : ℕ) (before : Option StripFault) (reference
     → IsReadOver form i before reference b row rest
 read_over form i before reference b row rest over line = record {
   line = line;
-  alone = λ lost. elim (one_or_two line.dimension) [
-    | inl one ↦ one
-    | inr two ↦ elim over [
-      | inl none ↦ absurd (lost none)
-      | inr not_two ↦ absurd (not_two (line.codes, rw two at line.start))
-    ]
-  ];
+  alone = λ lost two. elim over [ | inl none ↦ lost none | inr not_two ↦ not_two two ];
 }
 
 module _ (old : StripState) (before : Option StripFault) (over : IsOverLost (salvaging old before) None) where

@@ -6,13 +6,13 @@ use Rattle.std.proofs.Common.{refl, ap, ◌∙◌, subst}
 use Rattle.std.specs.Prelude.{nat_le, if◌then◌else◌}
 use Rattle.std.proofs.lemmas.Bool.Decides.{nat_tests}
 use Rattle.fax_bits.specs.Bits.{IsAllZeros}
+use Rattle.fax_bits.specs.Reading.{Read}
 use Rattle.fax_page.specs.Lines.{NextOne, ends_line}
 use Rattle.fax_page.specs.Lines.{in_code, next_one, not_there, read_start}
 use Rattle.fax_page.specs.Lines.{Coding, Dimension, StripFault}
-use Rattle.std.proofs.Common.{Result}
 
 -- what stands before the codes of row i
-abbrev pub IsStart : Coding → ℕ → List Bool → Result (Dimension × List Bool) StripFault → Type 0
+abbrev pub IsStart : Coding → ℕ → List Bool → Read Dimension StripFault → Type 0
 IsStart coding i b start = read_start coding i b ≡ start
 
 -- zeros and a 1, or zeros alone

@@ -14,7 +14,7 @@ use Rattle.fax_page.specs.Salvage.{IsEolDue, found}
 use Rattle.fax_page.specs.LeftUncounted.{AreLeftUncounted, IsLeftUncounted}
 use Rattle.fax_page.specs.laws.Strips.{ReadsLinesOneWay}
 use Rattle.fax_page.proofs.EndFollowingLaws.{mark_is_cause, zeros_are_cause}
-use Rattle.fax_page.proofs.SalvageLaws.{begins_with_eol}
+use Rattle.fax_page.proofs.SalvageLaws.{none_begins}
 use Rattle.fax_page.proofs.StartLaws.{below_is_not_zeros, eol_is_not_below}
 
 -- an end mark begins with an EOL
@@ -47,7 +47,7 @@ module _ (reads : (form : StripForm) (i : ℕ) (reference : List Colour) → Rea
       at_end is (inl (mark, _)) = mark_has_eol form.coding left mark (subst BeginsBelowEleven is below)
       at_end is (inr (data_end, _)) = below_is_not_zeros left (subst BeginsBelowEleven is below) data_end.1
   not_lacking i row rest (other ∷ rows) stop left (after, low, line, lines) ends due below =
-      begins_with_eol form.coding i rest line.codes line.dimension due.0 line.start below
+      none_begins form i row rest other after line due.0 below
 
   all_found : (i : ℕ) (reference : List Colour) (b : List Bool) (rows : List (List Colour)) (stop : Option StripFault)
       (left : List Bool) → AreLines form i reference b rows stop left

@@ -19,6 +19,7 @@ use Rattle.fax_page.specs.laws.StripGraphs.{EndsAreToldByAFunction, StripsAreRea
 use Rattle.fax_page.specs.reads.Lines.{StripRead, read_strip}
 use Rattle.fax_page.specs.reads.Uncounted.{rows_end}
 use Rattle.fax_page.specs.laws.Uncounted.{ReadsUncountedOneWay, UncountedRowsAreAStrip, written_end}
+use Rattle.fax_page.proofs.LineParts.{cause_of}
 use Rattle.fax_page.proofs.StartLaws.{no_one}
 use Rattle.fax_page.proofs.StripLaws.{one_strip, strip_is}
 
@@ -58,15 +59,10 @@ abbrev pub of_rows : StripForm → ℕ → StripForm
 of_rows form rows = record form { rows = rows }
 
 module _ (form : StripForm) (from to : ℕ) where
+  -- (how many rows there are says nothing of one of them)
   abbrev pub line_of : (i : ℕ) (reference : List Colour) (b : List Bool) (row : List Colour) (rest : List Bool)
       → IsLine (of_rows form from) i reference b row rest → IsLine (of_rows form to) i reference b row rest
-  line_of i reference b row rest line = record {
-    dimension = line.dimension;
-    codes = line.codes;
-    start = line.start;
-    first_code = line.first_code;
-    coded = line.coded;
-  }
+  line_of i reference b row rest line = line
 
   -- rows are all rows of a strip of as many, whatever stops them
   pub all_lines : (i : ℕ) (reference : List Colour) (b : List Bool) (rows : List (List Colour))
@@ -93,18 +89,19 @@ written_cause : (form : StripForm) (i : ℕ) (reference : List Colour) (coding :
     → form.coding ≡ coding
     → (fault : StripFault) × IsCause form i reference (end_bits coding ++ replicate zeros false) fault
 written_cause form i reference Mh zeros is =
-    (DataEnds, inl (rw is (ap (start_by Mh i (replicate zeros false)) (at_zeros 0 zeros))))
+    (DataEnds, cause_of form i reference _ DataEnds (inl (rw is (ap (start_by Mh i (replicate zeros false)) (at_zeros 0
+      zeros)))))
 written_cause form i reference Mr zeros is =
-    (DataEnds, inl (rw is (ap (start_by Mr i (replicate zeros false)) (at_zeros 0 zeros))))
+    (DataEnds, cause_of form i reference _ DataEnds (inl (rw is (ap (start_by Mr i (replicate zeros false)) (at_zeros 0
+      zeros)))))
 written_cause form i reference Mmr zeros is = (
   EndMarker,
-  inr (
+  cause_of form i reference (end_bits Mmr ++ replicate zeros false) EndMarker (inr (
     TwoDimensional,
     end_bits Mmr ++ replicate zeros false,
     rw is refl,
-    inl
-        (true ∷ end_of_line ++ replicate zeros false, refl, refl),
-  ),
+    inl (inl (true ∷ end_of_line ++ replicate zeros false, refl, refl)),
+  )),
 )
 
 pub written_ends_so : (coding : Coding) (row zeros : ℕ) (stop : Option StripFault) → 0 < row

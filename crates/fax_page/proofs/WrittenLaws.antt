@@ -3,7 +3,7 @@ use Rattle.fax_page.specs.code.Starts.{IsEndOfLine}
 use Rattle.fax_page.proofs.StartLaws.{IsStart}
 use Rattle.std.proofs.Common.{ap}
 use Rattle.std.proofs.Common.{◌≡◌, ℕ, zero, suc, ◌+◌, List, [], ◌∷◌, ◌++◌, length, Bool, refl, sym, subst, arith}
-use Rattle.std.proofs.Common.{append_assoc, None, Ok}
+use Rattle.std.proofs.Common.{append_assoc, None, ◌∙◌}
 use Rattle.std.specs.Prelude.{All}
 use Rattle.std.proofs.lemmas.List.{length-replicate}
 use Rattle.fax_bits.specs.declared.Colour.{Colour}
@@ -15,7 +15,9 @@ use Rattle.fax_page.specs.declared.Dimension.TheVariants.{OneDimensional, TwoDim
 use Rattle.fax_page.specs.declared.Coding.{Coding}
 use Rattle.fax_page.specs.declared.Coding.TheVariants.{Mh, Mr, Mmr}
 use Rattle.fax_page.specs.declared.StripForm.{StripForm}
-use Rattle.fax_page.specs.Lines.{tag_bit, IsRowIn, IsLine, start_by, white_row}
+use Rattle.fax_bits.specs.Reading.{read}
+use Rattle.fax_rows.specs.ReadRows.{read_one_dimensional}
+use Rattle.fax_page.specs.Lines.{tag_bit, IsLine, read_codes, start_by, white_row}
 use Rattle.fax_page.specs.views.Strip.{IsStripForm}
 use Rattle.fax_page.specs.Strip.{AreLines}
 use Rattle.fax_page.specs.Strip.{written_dimension, row_bits, fill_zeros, start_bits, coded_line, coded_lines}
@@ -23,12 +25,13 @@ use Rattle.fax_page.specs.Strip.{coded_bits, end_bits}
 use Rattle.fax_page.specs.laws.Strips.{AreRowsOf, CodedBitsAreRead}
 use Rattle.fax_page.proofs.FillLemmas.{end_of_line_back}
 use Rattle.fax_page.proofs.FirstCodeLemmas.{row_begins}
+use Rattle.fax_page.proofs.LineParts.{line_of}
 
 -- a written row begins as it is to
 start_back : (coding : Coding) (aligned : Bool) (before k i : ℕ) (reference row : List Colour) (more : List Bool)
     → let dimension = written_dimension coding k i in
     IsStart coding i ((start_bits coding aligned before dimension ++ row_bits dimension reference row) ++ more)
-    (Ok (dimension, row_bits dimension reference row ++ more))
+    (read dimension (row_bits dimension reference row ++ more))
 start_back Mh aligned before k i reference row more =
     ap (start_by Mh i _) (end_of_line_back (fill_zeros aligned before) [] (one_dimensional_bits row) more)
 start_back Mr aligned before k i reference row more =
@@ -38,7 +41,7 @@ start_back Mr aligned before k i reference row more =
     (row_bits dimension reference row) more)
   where
     tagged : (b codes : List Bool) (dimension : Dimension) → IsEndOfLine b (tag_bit dimension ∷ codes)
-        → IsStart Mr i b (Ok (dimension, codes))
+        → IsStart Mr i b (read dimension codes)
     tagged b codes OneDimensional eol = ap (start_by Mr i b) eol
     tagged b codes TwoDimensional eol = ap (start_by Mr i b) eol
 start_back Mmr aligned before k i reference row more = refl
@@ -48,8 +51,15 @@ module _ (one_read : OneDimensionalBitsAreRead) (two_read : TwoDimensionalBitsAr
     (k : ℕ) where
   row_back : (dimension : Dimension) (reference row : List Colour) (more : List Bool) → length reference ≡ form.width
       → length row ≡ form.width
-      → IsRowIn dimension form.width reference (row_bits dimension reference row ++ more) row more
-  row_back dimension reference row more reference_width width = grind arith
+      → read_codes dimension form.width reference (row_bits dimension reference row ++ more) ≡ read row more
+  row_back OneDimensional reference row more reference_width width =
+      ap (λ n. read_one_dimensional n (one_dimensional_bits row ++ more)) (sym width)
+      ∙ one_read row more (record { some = omega (arith, width, limits.some_pels); short = omega (arith, width,
+        limits.short_rows) })
+  row_back TwoDimensional reference row more reference_width width =
+      two_read reference row more
+      (record { some = omega (arith, width, limits.some_pels); short = omega (arith, width, limits.short_rows) })
+      (omega (arith, width, reference_width))
 
   line_back : (before i : ℕ) (reference row : List Colour) (more : List Bool) → length reference ≡ form.width
       → length row ≡ form.width
@@ -59,13 +69,13 @@ module _ (one_read : OneDimensionalBitsAreRead) (two_read : TwoDimensionalBitsAr
       let dimension = written_dimension form.coding k i in
       let codes = row_bits dimension reference row ++ more in
       let coded = row_back dimension reference row more reference_width width in
-      record {
+      line_of form i reference (coded_line form k before i reference row ++ more) row more (record {
         dimension = dimension;
         codes = codes;
         start = start_back form.coding form.aligned before k i reference row more;
         first_code = row_begins dimension form.width reference codes row more limits.some_pels coded;
         coded = coded;
-      }
+      })
 
   lines_back : (before i : ℕ) (reference : List Colour) (rows : List (List Colour)) (more : List Bool)
       → length reference ≡ form.width

@@ -1,11 +1,13 @@
 -- How a row begins in a strip, and what keeps it from being read.
 -- A definition without a citation is this project's profile.
-use Rattle.std.specs.Prelude.{◌≡◌, ℕ, zero, suc, ◌<◌, ◌⊎◌, nat_le, if◌then◌else◌, Bool, true, false}
-use Rattle.std.specs.Prelude.{List, [], ◌∷◌, ◌++◌, replicate, Result, Ok, Err}
-use Rattle.fax_rows.specs.Rows.{Colour, White, IsOneDimensionalRow, IsTwoDimensionalRow}
+use Rattle.std.specs.Prelude.{◌≡◌, ℕ, zero, suc, nat_le, if◌then◌else◌, Bool, true, false}
+use Rattle.std.specs.Prelude.{List, [], ◌∷◌, replicate, Option, Some, None}
+use Rattle.fax_bits.specs.Codes.{after_front}
+use Rattle.fax_bits.specs.Reading.{Read, read, failed, ◌>>=◌, map_fault}
+use Rattle.fax_rows.specs.Rows.{Colour, White}
+use Rattle.fax_rows.specs.ReadRows.{read_one_dimensional, read_two_dimensional}
 use Rattle.fax_rows.specs.declared.RowFault.{RowFault}
 use Rattle.fax_rows.specs.declared.RowFault.TheVariants as in_row
-use Rattle.fax_rows.specs.Faults.{IsOneDimensionalFault, IsTwoDimensionalFault}
 use Rattle.fax_page.specs.declared.StripFault.TheVariants.{DataEnds, BadCode, Extension, RunTooLong}
 use Rattle.fax_page.specs.declared.StripFault.TheVariants.{OutOfRow, MissingEol, EndMarker}
 pub use Rattle.fax_page.specs.declared.Dimension.{Dimension}
@@ -38,34 +40,35 @@ next_one n (false ∷ b) = next_one (suc n) b
 next_one n (true ∷ b) = if nat_le 11 n then ends_line b else in_code
 
 -- what stands before the codes of row i of a strip: in MH an EOL, in MR an EOL and a tag bit,
--- nothing in MMR. How the row is coded, and its codes, or the fault (T.4, sections 4.1.2 and 4.2.2;
--- T.6, section 2.2.1; that row 0 of MH may lack its EOL is this project's profile)
-abbrev pub start_by : Coding → ℕ → List Bool → NextOne → Result (Dimension × List Bool) StripFault
-start_by Mmr i b one = Ok (TwoDimensional, b)
-start_by Mh i b (ends_line codes) = Ok (OneDimensional, codes)
-start_by Mh zero b in_code = Ok (OneDimensional, b)
-start_by Mr i b (ends_line []) = Err DataEnds
+-- nothing in MMR. How the row is coded, or the fault (T.4, sections 4.1.2 and 4.2.2; T.6, section
+-- 2.2.1; that row 0 of MH may lack its EOL is this project's profile)
+abbrev pub start_by : Coding → ℕ → List Bool → NextOne → Read Dimension StripFault
+start_by Mmr i b one = read TwoDimensional b
+start_by Mh i b (ends_line codes) = read OneDimensional codes
+start_by Mh zero b in_code = read OneDimensional b
+start_by Mr i b (ends_line []) = failed DataEnds
 start_by Mr i b (ends_line (tag ∷ codes)) =
-    Ok (if tag then OneDimensional else TwoDimensional, codes)
-start_by _ i b in_code = Err MissingEol
-start_by _ i b not_there = Err DataEnds
+    read (if tag then OneDimensional else TwoDimensional) codes
+start_by _ i b in_code = failed MissingEol
+start_by _ i b not_there = failed DataEnds
 
-abbrev pub read_start : Coding → ℕ → List Bool → Result (Dimension × List Bool) StripFault
+abbrev pub read_start : Coding → ℕ → List Bool → Read Dimension StripFault
 read_start coding i b = start_by coding i b (next_one 0 b)
 
--- the bits begin with this row, coded so (T.4, sections 4.1.1 and 4.2.1.3.3)
-abbrev pub IsRowIn : Dimension → ℕ → List Colour → List Bool → List Colour → List Bool → Type 0
-IsRowIn OneDimensional width reference b row rest = IsOneDimensionalRow width b row rest
-IsRowIn TwoDimensional width reference b row rest = IsTwoDimensionalRow reference b row rest
+-- eleven zeros where a row's first code is next are an end marker, whatever follows them; after
+-- fewer, and nothing more, the data ends. Else the codes may be read, and nothing is
+abbrev pub first_bits : Option (List Bool) → NextOne → List Bool → Read (Unit {0}) StripFault
+first_bits (Some after) one b = failed EndMarker
+first_bits None not_there b = failed DataEnds
+first_bits None one b = read tt b
 
--- row i of a strip is this row over its reference, and the rest follows it
-pub record IsLine (form : StripForm) (i : ℕ) (reference : List Colour) (b : List Bool)
-    (row : List Colour) (rest : List Bool) : Type 0 where
-  pub dimension : Dimension
-  pub codes : List Bool
-  pub start : read_start form.coding i b ≡ Ok (dimension, codes)
-  pub first_code : next_one 0 codes ≡ in_code
-  pub coded : IsRowIn dimension form.width reference codes row rest
+abbrev pub check_first : List Bool → Read (Unit {0}) StripFault
+check_first b = first_bits (after_front (replicate 11 false) b) (next_one 0 b) b
+
+-- the codes of a row, coded so (T.4, sections 4.1.1 and 4.2.1.3.3)
+abbrev pub read_codes : Dimension → ℕ → List Colour → List Bool → Read (List Colour) RowFault
+read_codes OneDimensional width reference b = read_one_dimensional width b
+read_codes TwoDimensional width reference b = read_two_dimensional reference b
 
 -- a strip's name for the fault of a row
 abbrev pub strip_fault : RowFault → StripFault
@@ -75,24 +78,20 @@ strip_fault in_row.Extension = Extension
 strip_fault in_row.RunTooLong = RunTooLong
 strip_fault in_row.OutOfRow = OutOfRow
 
--- the codes of a row, coded so, stop with this fault
-abbrev pub IsRowFaultIn : Dimension → ℕ → List Colour → List Bool → RowFault → Type 0
-IsRowFaultIn OneDimensional width reference b fault = IsOneDimensionalFault width b fault
-IsRowFaultIn TwoDimensional width reference b fault = IsTwoDimensionalFault reference b fault
+-- row i of a strip over its reference
+abbrev pub codes_after : StripForm → List Colour → Dimension → List Bool
+    → Read (List Colour) StripFault
+codes_after form reference dimension codes =
+    check_first codes
+    >>= λ _ b. map_fault strip_fault (read_codes dimension form.width reference b)
 
--- the fault where a row's first code is due: eleven zeros are an end marker, whatever follows them;
--- after fewer, and nothing more, the data ends; else the codes stop with a fault of their own
-abbrev pub IsStopInCodes : Dimension → ℕ → List Colour → List Bool → StripFault → Type 0
-IsStopInCodes dimension width reference b fault =
-    ((after : List Bool) × (b ≡ replicate 11 false ++ after) × (fault ≡ EndMarker))
-    ⊎ ((zeros : ℕ) × (zeros < 11) × (b ≡ replicate zeros false) × (fault ≡ DataEnds))
-    ⊎ ((next_one 0 b ≡ in_code) × (cause : RowFault)
-    × IsRowFaultIn dimension width reference b cause × (fault ≡ strip_fault cause))
+abbrev pub read_line : StripForm → ℕ → List Colour → List Bool → Read (List Colour) StripFault
+read_line form i reference b = read_start form.coding i b >>= codes_after form reference
 
--- row i of a strip is not there, for this cause: before its first code, or from there on
+-- row i of a strip is this row over its reference, and the rest follows it
+abbrev pub IsLine : StripForm → ℕ → List Colour → List Bool → List Colour → List Bool → Type 0
+IsLine form i reference b row rest = read_line form i reference b ≡ read row rest
+
+-- row i of a strip is not there, for this cause
 abbrev pub IsCause : StripForm → ℕ → List Colour → List Bool → StripFault → Type 0
-IsCause form i reference b fault =
-    (read_start form.coding i b ≡ Err fault)
-    ⊎ ((dimension : Dimension) × (codes : List Bool)
-    × (read_start form.coding i b ≡ Ok (dimension, codes))
-    × IsStopInCodes dimension form.width reference codes fault)
+IsCause form i reference b fault = read_line form i reference b ≡ failed fault

@@ -3,10 +3,11 @@
 -- A definition without a citation is this project's profile.
 use Rattle.std.specs.Prelude.{◌≡◌, ◌≢◌, ℕ, suc, ◌+◌, ◌-◌, ◌<◌, ◌⊎◌, Bool, true, false}
 use Rattle.std.specs.Prelude.{nat_le, if◌then◌else◌, List, [], ◌∷◌, ◌++◌, replicate, Option, Some}
-use Rattle.std.specs.Prelude.{None, option_map, MatchOption, Result, Ok, Err}
+use Rattle.std.specs.Prelude.{None, option_map, MatchOption}
+use Rattle.fax_bits.specs.Reading.{Read, read, failed}
 use Rattle.fax_bits.specs.declared.Colour.{Colour}
 use Rattle.fax_page.specs.declared.StripFault.TheVariants.{DataEnds, MissingEol}
-use Rattle.fax_page.specs.Lines.{Coding, Mmr, Dimension, OneDimensional, TwoDimensional}
+use Rattle.fax_page.specs.Lines.{Coding, Mmr, Dimension, TwoDimensional}
 use Rattle.fax_page.specs.Lines.{StripForm, StripFault, IsCause, IsLine, in_code, next_one}
 use Rattle.fax_page.specs.Lines.{read_start, white_row}
 use Rattle.fax_page.specs.Strip.{end_of_line}
@@ -32,22 +33,22 @@ next_due coding from = option_map (λ rest. end_of_line ++ rest) (after_eol 0 fr
 
 -- where the next EOL is looked for after row i, which is lost: after its own EOL and tag bit, or
 -- from its place on where it has none; where the data end before its codes nothing is left
-abbrev pub sought_from : List Bool → Result (Dimension × List Bool) StripFault → List Bool
-sought_from b (Ok start) = start.1
-sought_from b (Err DataEnds) = []
-sought_from b (Err fault) = b
+abbrev pub sought_from : List Bool → Read Dimension StripFault → List Bool
+sought_from b (read dimension codes) = codes
+sought_from b (failed DataEnds) = []
+sought_from b (failed fault) = b
 
 -- row i is coded over the row before it (T.4, section 4.2.2; T.6, section 2.2.1)
 abbrev pub BeginsTwoDimensional : Coding → ℕ → List Bool → Type 0
 BeginsTwoDimensional coding i b =
-    (codes : List Bool) × (read_start coding i b ≡ Ok (TwoDimensional, codes))
+    (codes : List Bool) × (read_start coding i b ≡ read TwoDimensional codes)
 
 -- row i is this one over its reference, and the rest follows it. Where the row before it is lost,
 -- for some cause, it is not coded over that one
 pub record IsReadOver (form : StripForm) (i : ℕ) (before : Option StripFault)
     (reference : List Colour) (b : List Bool) (row : List Colour) (rest : List Bool) : Type 0 where
   pub line : IsLine form i reference b row rest
-  pub alone : before ≢ None → line.dimension ≡ OneDimensional
+  pub alone : before ≢ None → BeginsTwoDimensional form.coding i b → ⊥
 
 -- an EOL is due after row i: in MH and MR, after each row of a strip but the last
 abbrev pub IsEolDue : StripForm → ℕ → Type 0

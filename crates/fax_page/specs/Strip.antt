@@ -9,7 +9,8 @@ use Rattle.fax_rows.specs.Rows.{Colour}
 use Rattle.fax_rows.specs.Coded.{one_dimensional_bits, two_dimensional_bits}
 use Rattle.fax_page.specs.Lines.{Coding, Mh, Mr, Mmr, Dimension, OneDimensional, TwoDimensional}
 use Rattle.fax_page.specs.Lines.{StripForm, StripFault, IsCause, IsLine, tag_bit}
-use Rattle.fax_page.specs.Lines.{ends_line, next_one, white_row}
+use Rattle.fax_bits.specs.Reading.{read}
+use Rattle.fax_page.specs.Lines.{ends_line, next_one, read_start, white_row}
 use Rattle.fax_page.specs.declared.notes.StripNotes.{StripNotes}
 
 -- the most rows that a strip has
@@ -108,14 +109,22 @@ IsEndMark coding b rest = AreReturnEols coding 6 b rest
 abbrev pub HasEndMark : Coding → List Bool → Type 0
 HasEndMark coding b = (rest : List Bool) × IsEndMark coding b rest
 
+-- the codes of row i, after what stands before them, are others than those that T.4 chooses (T.4,
+-- sections 4.1.1 and 4.2.1.3.3)
+abbrev pub HasOtherCodes : StripForm → ℕ → List Colour → List Bool → List Colour → List Bool
+    → Type 0
+HasOtherCodes form i reference b row rest =
+    (dimension : Dimension) × (codes : List Bool)
+    × (read_start form.coding i b ≡ read dimension codes)
+    × (codes ≢ row_bits dimension reference row ++ rest)
+
 -- from row i on, over this reference, the codes of some row are others than those that T.4 chooses
 -- (T.4, sections 4.1.1 and 4.2.1.3.3)
 abbrev pub HasOtherChoice : StripForm → ℕ → List Colour → List Bool → List (List Colour) → Type 0
 HasOtherChoice form i reference b [] = ⊥
 HasOtherChoice form i reference b (row ∷ rows) =
-    (rest : List Bool) × (line : IsLine form i reference b row rest)
-    × ((line.codes ≢ row_bits line.dimension reference row ++ rest)
-    ⊎ HasOtherChoice form (i + 1) row rest rows)
+    (rest : List Bool) × IsLine form i reference b row rest
+    × (HasOtherCodes form i reference b row rest ⊎ HasOtherChoice form (i + 1) row rest rows)
 
 -- the notes on a strip of which all rows can be read, by what is left after them, and what of it
 -- stands after the end mark: all of it where it begins with none

@@ -11,12 +11,10 @@ ghost use Rattle.fax_page.specs.laws.Salvage as Salvage;
 ghost use Rattle.fax_page.specs.laws.Uncounted as Uncounted;
 ghost use Rattle.fax_page.specs.laws.Writer.{WritesRowByRow};
 
-/// A row of a strip, or the fault in its way, and the rows of a strip, are what a function reads of
-/// its bits, in any coding.
+/// The rows of a strip, up to its end, are what a function reads of its bits, in any coding.
 pub fn strips_are_read_by_functions()
     ensures { Graphs.StripsAreReadByFunctions }
 {
-    fax_rows::laws::rows_are_read_by_functions();
 }
 
 /// How rows end that nobody counted is what a function says, in any coding.
@@ -31,7 +29,6 @@ pub fn lines_are_read_in_one_way()
     ensures { (form : StripForm) (i : ℕ) (reference : List Colour)
         → Law.ReadsLinesOneWay form i reference }
 {
-    strips_are_read_by_functions();
     fax_rows::laws::rows_have_their_width();
     fax_bits::laws::run_codes_are_read_in_one_way();
     fax_bits::laws::codes_are_read_in_one_way::<fax_bits::Modes>();
@@ -132,7 +129,6 @@ pub fn rows_stay_whatever_follows()
     ensures { (form : StripForm) (i : ℕ) (reference : List Colour)
         → Following.StaysWhateverFollows form i reference }
 {
-    strips_are_read_by_functions();
     fax_bits::laws::run_codes_are_read_in_one_way();
     fax_bits::laws::codes_are_read_in_one_way::<fax_bits::Modes>();
 }
@@ -159,7 +155,6 @@ pub fn ends_stay_whatever_follows()
 pub fn strips_are_salvaged_in_one_way()
     ensures { Salvage.SalvagesStripsOneWay }
 {
-    strips_are_read_by_functions();
 }
 
 /// The rows that are read before a fault are found: all of them, or where an EOL is missing after
@@ -195,7 +190,6 @@ pub fn whole_strips_are_found()
 pub fn uncounted_rows_are_left_in_one_way()
     ensures { LeavesUncounted }
 {
-    strips_are_read_by_functions();
     lines_are_read_in_one_way();
     strips_are_salvaged_in_one_way();
 }
@@ -205,5 +199,4 @@ pub fn uncounted_rows_are_left_in_one_way()
 pub fn damaged_strips_are_read_by_functions()
     ensures { Graphs.DamagedStripsAreReadByFunctions }
 {
-    strips_are_read_by_functions();
 }

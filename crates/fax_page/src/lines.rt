@@ -1,9 +1,12 @@
 //! A row of a strip: what stands before its codes, and its codes.
-ghost use Rattle.std.specs.Prelude.{◌≡◌, ◌<◌, ◌∷◌, [], List, false, length, Ok, Err, OnOk, IfOk, IfErr, IsTrue};
+ghost use Rattle.std.specs.Prelude.{◌≡◌, ◌<◌, ◌∷◌, [], List, false, length, OnOk, IfOk, IfErr};
+ghost use Rattle.std.specs.Prelude.{IsTrue};
+ghost use Rattle.fax_bits.specs.Reading.{answered, read};
 ghost use Rattle.fax_bits.specs.declared.Colour.{Colour};
 ghost use Rattle.fax_bits.specs.views.Source.{KeepsEnd};
 ghost use Rattle.fax_page.specs.Lines as Lines;
-ghost use Rattle.fax_page.specs.code.Starts.{BeginsBelowEleven, HasEol, HasNoEol, IsFirstCodeFault, IsStop};
+ghost use Rattle.fax_page.specs.code.Starts.{BeginsBelowEleven, HasEol, HasNoEol, IsFirstCodeFault};
+ghost use Rattle.fax_page.specs.code.Starts.{IsStop};
 ghost use Rattle.fax_page.specs.code.LineStops.{IsLineStop};
 ghost use Rattle.fax_page.specs.code.Notes.{IsChosen};
 ghost use Rattle.fax_page.specs.code.Salvage.{IsFirstEol, IsNextEol};
@@ -67,9 +70,8 @@ pub(crate) fn read_start(
     coding: Coding,
     i: u32,
 ) -> Result<Dimension, StripFault>
-    ensures ok { IfOk result (λ dimension.
-        Lines.read_start coding i source.old.left ≡ Ok (dimension, source.new.left)) }
-    ensures err { IfErr result (λ fault. Lines.read_start coding i source.old.left ≡ Err fault) }
+    ensures read { Lines.read_start coding i source.old.left
+        ≡ answered (λ dimension. dimension) result source.new.left }
     ensures same_end { KeepsEnd source.old source.new }
 {
     match coding {
@@ -120,8 +122,9 @@ pub(crate) fn stop(codes: &BitSource, cause: RowFault) -> StripFault
 /// next and T.4's choice, and answers whether they are. Else the source stays.
 #[inline(always)]
 pub(crate) fn take_white(source: &mut BitSource, dimension: Dimension, reference: &Row) -> bool
-    ensures row { IsTrue result → Lines.IsRowIn dimension (length reference.now) reference.now
-        source.old.left reference.now source.new.left }
+    ensures row { IsTrue result
+        → Lines.read_codes dimension (length reference.now) reference.now source.old.left
+        ≡ read reference.now source.new.left }
     ensures chosen { IsTrue result
         → IsChosen dimension reference.now source.old.left reference.now source.new.left }
     ensures unchanged { result ≡ false → source.new.left ≡ source.old.left }
@@ -142,10 +145,8 @@ pub(crate) fn read_codes(
     row: &mut Row,
 ) -> Result<(), RowFault>
     requires same_width { length reference.now ≡ length row.old }
-    ensures ok { OnOk result (Lines.IsRowIn dimension (length row.old) reference.now
-        source.old.left row.new source.new.left) }
-    ensures err { IfErr result
-        (Lines.IsRowFaultIn dimension (length row.old) reference.now source.old.left) }
+    ensures read { Lines.read_codes dimension (length row.old) reference.now source.old.left
+        ≡ answered (λ _. row.new) result source.new.left }
     ensures same_width { length row.new ≡ length row.old }
     ensures same_end { KeepsEnd source.old source.new }
 {

@@ -2,7 +2,8 @@
 ghost use Rattle.std.specs.Prelude.{◌≡◌, ◌<◌, ◌≤◌, ◌^◌, List, length, IfOk, IfErr, IsTrue, OnOk};
 ghost use Rattle.fax_bits.specs.Bits.{bits};
 ghost use Rattle.fax_bits.specs.declared.Colour.{Colour};
-ghost use Rattle.fax_page.specs.Lines.{IsRowFaultIn, IsRowIn};
+ghost use Rattle.fax_bits.specs.Reading.{answered, read};
+ghost use Rattle.fax_page.specs.Lines.{read_codes as read_codes_of};
 ghost use Rattle.fax_page.specs.Strip as Spec;
 ghost use Rattle.fax_page.specs.views.Strip.{IsNotedUncounted, IsNotesFault, IsStripForm};
 ghost use Rattle.fax_page.specs.code.Notes as Code;
@@ -84,12 +85,10 @@ fn read_seen(
     row: &mut Row,
 ) -> Result<bool, RowFault>
     requires same_width { length reference.now ≡ length row.old }
-    ensures ok { OnOk result (IsRowIn dimension (length row.old) reference.now
-        source.old.left row.new source.new.left) }
+    ensures read { read_codes_of dimension (length row.old) reference.now source.old.left
+        ≡ answered (λ _. row.new) result source.new.left }
     ensures chosen { IfOk result (λ chosen. IsTrue chosen
         → Code.IsChosen dimension reference.now source.old.left row.new source.new.left) }
-    ensures err { IfErr result
-        (IsRowFaultIn dimension (length row.old) reference.now source.old.left) }
     ensures same_width { length row.new ≡ length row.old }
 {
     match dimension {
@@ -140,8 +139,8 @@ impl<'a> NotedStrip<'a> {
         // The readers answer whether each step was T.4's choice; at any doubt the row is written
         // again, in a sink that is emptied for each row, and compared. That a row begins so is that
         // it is coded so, since what is written is read as nothing else (a law of `fax_rows`).
-        fax_rows::laws::one_dimensional_rows_are_read_as_nothing_else();
-        fax_rows::laws::two_dimensional_rows_are_read_as_nothing_else();
+        fax_rows::laws::one_dimensional_rows_are_read_back();
+        fax_rows::laws::two_dimensional_rows_are_read_back();
         let codes = self.source.again();
         match read_seen(&mut self.source, dimension, &rows.reference, &mut rows.row) {
             Ok(true) => return Ok(true),
@@ -165,8 +164,9 @@ impl<'a> NotedStrip<'a> {
         i: u32,
     ) -> Result<(), NotesFault>
         requires { Code.IsNoting self.old rows.old }
-        ensures ok { OnOk result (IsRowIn dimension self.old.form.width rows.old.reference
-            self.old.source.left rows.new.row self.new.source.left) }
+        ensures ok { OnOk result
+            (read_codes_of dimension self.old.form.width rows.old.reference self.old.source.left
+            ≡ read rows.new.row self.new.source.left) }
         ensures err { IfErr result (Code.IsCodesFault self.old.form i dimension
             rows.old.reference self.old.source.left) }
         ensures same_width { length rows.new.row ≡ length rows.old.row }

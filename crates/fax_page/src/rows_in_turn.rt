@@ -1,8 +1,10 @@
 //! The two rows of a strip that is read: a row and the row before it.
-ghost use Rattle.std.specs.Prelude.{◌≡◌, ◌<◌, false, length, IfOk, IfErr, IsTrue, List, OnErr, OnOk};
+ghost use Rattle.std.specs.Prelude.{◌≡◌, ◌<◌, false, length, IfOk, IfErr, IsTrue, List, OnErr};
+ghost use Rattle.std.specs.Prelude.{OnOk};
 ghost use Rattle.fax_bits.specs.declared.Colour.{Colour};
 ghost use Rattle.fax_bits.specs.views.Source.{KeepsEnd};
-ghost use Rattle.fax_page.specs.Lines.{IsLine, IsRowIn, IsRowFaultIn, white_row};
+ghost use Rattle.fax_bits.specs.Reading.{answered};
+ghost use Rattle.fax_page.specs.Lines.{IsLine, read_codes as read_codes_of, white_row};
 ghost use Rattle.fax_page.specs.code.LineStops.{IsLineStop};
 ghost use Rattle.fax_page.specs.views.Reader.{IsBefore};
 
@@ -115,10 +117,8 @@ impl RowsInTurn {
     /// read, the reference stays.
     #[inline(always)]
     fn read_codes(&mut self, source: &mut BitSource, dimension: Dimension) -> Result<(), RowFault>
-        ensures ok { OnOk result (IsRowIn dimension (length self.old) self.old
-            source.old.left self.new source.new.left) }
-        ensures err { IfErr result
-            (IsRowFaultIn dimension (length self.old) self.old source.old.left) }
+        ensures read { read_codes_of dimension (length self.old) self.old source.old.left
+            ≡ answered (λ _. self.new) result source.new.left }
         ensures kept { OnErr result (self.new ≡ self.old) }
         ensures same_width { length self.new ≡ length self.old }
         ensures same_end { KeepsEnd source.old source.new }

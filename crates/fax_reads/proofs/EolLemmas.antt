@@ -17,11 +17,16 @@ use Rattle.fax_bits.specs.Bits.{IsAllZeros, code_bits}
 use Rattle.fax_bits.specs.Codes.{IsRun, Spells, Takes, bits_of}
 use Rattle.fax_bits.specs.Tables.{black_make_up, black_runs, black_terminating, common_make_up, modes, run_table}
 use Rattle.fax_bits.specs.Tables.{white_make_up, white_runs, white_terminating}
-use Rattle.fax_rows.specs.Rows.{AreRuns, AreSteps, IsStepBy, Position, other}
+use Rattle.fax_rows.specs.Rows.{Position, beginning, other}
+use Rattle.fax_rows.specs.code.CodingSteps.{IsStepBy}
+use Rattle.fax_rows.proofs.RowRuleLemmas.{runs_rule, steps_rule}
 use Rattle.fax_page.specs.declared.Dimension.{Dimension}
 use Rattle.fax_page.specs.declared.Dimension.TheVariants.{OneDimensional, TwoDimensional}
 use Rattle.fax_page.specs.declared.StripForm.{StripForm}
-use Rattle.fax_page.specs.Lines.{IsLine, IsRowIn, NextOne, ends_line, in_code, next_one}
+use Rattle.fax_bits.specs.Reading.{read}
+use Rattle.fax_page.specs.Lines.{Coding, IsLine, NextOne, ends_line, in_code, next_one, read_codes, read_start}
+use Rattle.fax_page.proofs.BegunLemmas.{one_begun}
+use Rattle.fax_page.proofs.LineParts.{parts}
 use Rattle.fax_page.specs.Lines.{not_there}
 use Rattle.fax_page.specs.Salvage.{after_eol}
 use Rattle.fax_reads.specs.laws.Eols.{FoundRowsReachToTheNextEol, RowsHoldNoEol}
@@ -198,13 +203,6 @@ spelled_codes colour (n ∷ make_up) last b rest (middle, taken, more) =
 run_codes : (colour : Colour) (b : List Bool) (n : ℕ) (rest : List Bool) → IsRun colour b n rest → AreCodes b rest
 run_codes colour b n rest run = spelled_codes colour run.make_up run.last b rest run.spelled
 
-runs_codes : (width : ℕ) (colour : Colour) (from : ℕ) (b : List Bool) (runs : List ℕ) (rest : List Bool)
-    → AreRuns width colour from b runs rest → AreCodes b rest
-runs_codes width colour from b [] rest are = no_codes b rest are.1
-runs_codes width colour from b (n ∷ runs) rest (before, middle, run, more) =
-    codes_and b middle rest (run_codes colour b n middle run)
-    (runs_codes width (other colour) (from + n) middle runs rest more)
-
 -- steps
 step_codes : (meaning : ModeCode) (reference : List Colour) (old : Position) (b : List Bool) (new : Position)
     (rest : List Bool) → IsStepBy meaning reference old b new rest → AreCodes b rest
@@ -215,20 +213,28 @@ step_codes mode.Horizontal reference old b new rest step =
     (run_codes (other old.colour) step.middle step.second rest step.second_run)
 step_codes mode.Extension reference old b new rest step = absurd step
 
-steps_codes : (reference : List Colour) (old : Position) (b : List Bool) (positions : List Position) (new : Position)
-    (rest : List Bool) → AreSteps reference old b positions new rest → AreCodes b rest
-steps_codes reference old b [] new rest are = no_codes b rest are.1
-steps_codes reference old b (next ∷ more) new rest (inside, middle, step, steps) =
-    codes_and b middle rest
-    (codes_and b step.after middle (mode_codes b step.mode step.after step.taken)
-    (step_codes step.mode reference old step.after next middle step.step))
-    (steps_codes reference next middle more new rest steps)
-
 row_codes : (dimension : Dimension) (width : ℕ) (reference : List Colour) (b : List Bool) (row : List Colour)
-    (rest : List Bool) → IsRowIn dimension width reference b row rest → AreCodes b rest
-row_codes OneDimensional width reference b row rest is = runs_codes width White 0 b is.runs rest is.coded
+    (rest : List Bool) → read_codes dimension width reference b ≡ read row rest → AreCodes b rest
+row_codes OneDimensional width reference b row rest is =
+    runs_rule width (λ at b pels rest. AreCodes b rest) (λ at b end. no_codes b b refl)
+    (λ at to b left pels rest unfinished run more.
+    codes_and b left rest (run_codes at.colour b run.n left run.run) more)
+    (record { pels = []; colour = White }) b row rest is
 row_codes TwoDimensional width reference b row rest is =
-    steps_codes reference _ b is.positions is.last rest is.steps
+    (steps_rule reference (λ at left. AreCodes b left)
+    (λ at middle new left step codes. codes_and b middle left codes
+    (codes_and middle step.after left (mode_codes middle step.mode step.after step.taken)
+    (step_codes step.mode reference at step.after new left step.step)))
+    beginning b row rest is (no_codes b b refl)).1
+
+line_codes : (form : StripForm) (i : ℕ) (reference : List Colour) (b : List Bool) (row : List Colour) (rest : List Bool)
+    (dimension : Dimension) (codes : List Bool)
+    → IsLine form i reference b row rest → read_start form.coding i b ≡ read dimension codes → AreCodes codes rest
+line_codes form i reference b row rest dimension codes line start =
+    let read = parts form i reference b row rest line in
+    let same = one_begun form.coding i b _ _ _ _ read.start start in
+    subst (λ c. AreCodes c rest) same.1
+    (row_codes read.dimension form.width reference read.codes row rest read.coded)
 
 -- the EOL after zeros
 eol_there : (n z : ℕ) (after : List Bool) → 11 ≤ z + n
@@ -254,10 +260,10 @@ next codes rest after (own, is, free) eol =
 
 pub no_eols : RowsHoldNoEol
 no_eols = record {
-  inside = λ form i reference b row rest line.
-      inside line.codes rest (row_codes line.dimension form.width reference line.codes row rest line.coded);
-  next = λ form i reference b row rest line after eol.
-      next line.codes rest after (row_codes line.dimension form.width reference line.codes row rest line.coded) eol;
+  inside = λ form i reference b row rest dimension codes line start.
+      inside codes rest (line_codes form i reference b row rest dimension codes line start);
+  next = λ form i reference b row rest dimension codes after line start eol.
+      next codes rest after (line_codes form i reference b row rest dimension codes line start) eol;
 }
 
 -- what follows a row that is found
@@ -267,14 +273,24 @@ follows rest not_there at not_below = inl (by_next rest not_there at)
 follows rest in_code at not_below = absurd (not_below at)
 follows rest (ends_line after) at not_below = inr (after, at)
 
+abbrev Reaches : Coding → ℕ → List Bool → List Bool → Type 0
+Reaches coding i b rest =
+    IsAllZeros rest
+    ⊎ ((after : List Bool) × IsEndOfLine rest after
+    × ((dimension : Dimension) (codes : List Bool) → read_start coding i b ≡ read dimension codes
+    → after_eol 0 codes ≡ Some after))
+
 reaches : (form : StripForm) (i : ℕ) (reference : List Colour) (b : List Bool) (row : List Colour) (rest : List Bool)
-    (line : IsLine form i reference b row rest) → IsAllZeros rest ⊎ ((after : List Bool) × IsEndOfLine rest after)
-    → IsAllZeros rest ⊎ ((after : List Bool) × IsEndOfLine rest after × (after_eol 0 line.codes ≡ Some after))
+    → IsLine form i reference b row rest → IsAllZeros rest ⊎ ((after : List Bool) × IsEndOfLine rest after)
+    → Reaches form.coding i b rest
 reaches form i reference b row rest line (inl all) = inl all
-reaches form i reference b row rest line (inr (after, eol)) =
-    inr (after, eol, no_eols.next form i reference b row rest line after eol)
+reaches form i reference b row rest line (inr (after, eol)) = inr (
+  after,
+  eol,
+  λ dimension codes start. no_eols.next form i reference b row rest dimension codes after line start eol,
+)
 
 pub found_reach : FoundRowsReachToTheNextEol
-found_reach form i before reference b row rows (rest, inside, read, ends, more) due =
+found_reach form i before reference b row rows (rest, inside, over, ends, more) due =
     let after = follows rest (next_one 0 rest) refl (ends due) in
-    (rest, read.line, reaches form i reference b row rest read.line after)
+    (rest, over.line, reaches form i reference b row rest over.line after)

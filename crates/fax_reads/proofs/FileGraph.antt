@@ -8,7 +8,7 @@ use Rattle.fax_bits.specs.laws.Codes.{AreBitsByPlace, IsOne}
 use Rattle.fax_bits.specs.Bits.{bits}
 use Rattle.fax_page.specs.declared.StripFault.{StripFault}
 use Rattle.fax_page.specs.declared.StripForm.{StripForm}
-use Rattle.fax_page.specs.Lines.{IsCause, IsLine}
+use Rattle.fax_bits.specs.Reading.{Read, read, failed}
 use Rattle.fax_files.specs.declared.PageForm.{PageForm}
 use Rattle.fax_files.specs.Page.{most_rows, strip_bytes, strip_form}
 use Rattle.fax_files.specs.laws.TiffFiles.{FilesHaveOneChain, FormsAreWhole}
@@ -19,12 +19,11 @@ use Rattle.fax_walk.proofs.RowLawLemmas.{LinesAreRead, exchanged_twice, measure,
 use Rattle.fax_walk.proofs.TailLawLemmas.{files_have_one_items}
 use Rattle.fax_walk.proofs.InOrderLemmas.{IsOneAnswer, same_answer, two_of}
 use Rattle.fax_walk.proofs.PageLawLemmas.{form_falls, one_form, one_forms}
-use Rattle.fax_page.specs.reads.Lines.{read_line}
+use Rattle.fax_page.specs.Lines.{read_line}
 use Rattle.fax_page.specs.laws.StripGraphs.{StripsAreReadByFunctions}
 use Rattle.fax_reads.specs.Files.{AllRead, all_after, forms_from, read_all, read_form, read_forms, read_in_strip}
 use Rattle.fax_reads.specs.Files.{read_row, read_rows, row_or_end, rows_from}
 use Rattle.fax_reads.specs.laws.Files.{FilesAreReadByFunctions}
-use Rattle.fax_rows.proofs.RowLaws.{read_is}
 
 -- one answer that a function gives is the one that is defined, and the other way round
 both_ways : {A : Type 0} {holds : A → Type 0} → IsOneAnswer holds → (read : A) → holds read → (answer : A)
@@ -100,12 +99,10 @@ module _ (strips : StripsAreReadByFunctions)
     abbrev all : List Bool
     all = bits form.order bytes
 
-    by_line : (r : Result (List Colour × List Bool) StripFault)
-        → MatchResult r (λ line. IsLine strip i inner.reference (drop inner.bits all) line.0 line.1)
-        (IsCause strip i inner.reference (drop inner.bits all))
+    by_line : (r : Read (List Colour) StripFault) → read_line strip i inner.reference (drop inner.bits all) ≡ r
         → IsInStrip form at (Some bytes) (row_or_end form at bytes r)
-    by_line (Err fault) cause = (fault, cause, refl)
-    by_line (Ok (row, rest)) line =
+    by_line (failed fault) cause = (fault, cause, refl)
+    by_line (read row rest) line =
         let (after, within, rest_is) = (lines_read strip i inner.reference).rest all inner.bits row rest line in
         let left : length all - after ≡ length rest = sym (length-drop after all)
         ∙ ap (λ (b : List Bool). length b) rest_is in
@@ -115,8 +112,7 @@ module _ (strips : StripsAreReadByFunctions)
 
     in_bytes : IsInStrip form at (Some bytes) (read_in_strip form at (Some bytes))
     in_bytes =
-        by_line (read_line strip i inner.reference (drop inner.bits all))
-        (read_is (strips.line strip i inner.reference) (drop inner.bits all))
+        by_line (read_line strip i inner.reference (drop inner.bits all)) refl
 
   in_strip_is : (form : PageForm) (at : RowPlace) (found : Option (List ℕ))
       → IsInStrip form at found (read_in_strip form at found)

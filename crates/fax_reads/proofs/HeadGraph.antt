@@ -12,8 +12,7 @@ use Rattle.fax_files.specs.code.Pbm as Code
 use Rattle.fax_files.specs.code.Pbm.{begins_piece, has_digit, is_digit, is_line_end}
 use Rattle.fax_files.proofs.PbmGapLemmas.{gap_is_read, gap_passed, gap_has_no_digit, white_is_no_digit}
 use Rattle.fax_files.proofs.PbmNumberLemmas.{number_begins}
-use Rattle.fax_rows.proofs.RunGraph.{bound, goes}
-use Rattle.fax_rows.specs.reads.CodeReading.{◌>>=◌}
+use Rattle.fax_files.specs.Directory.{◌>>=◌}
 use Rattle.fax_reads.specs.Images.{after_magic, after_pieces, after_gap, read_digits, read_number, after_space}
 use Rattle.fax_reads.specs.Images.{HeadRead, read_head}
 
@@ -22,6 +21,10 @@ went : {A B F : Type 0} (r : Result A F) (next : A → Result B F) (b : B) → r
     → (a : A) × (r ≡ Ok a) × (next a ≡ Ok b)
 went (Ok a) next b is = (a, refl, is)
 went (Err fault) next b is = let no : ⊥ = cc in absurd no
+
+goes : {A B F : Type 0} {r : Result A F} {x : A} {y : Result B F} (next : A → Result B F) → r ≡ Ok x → next x ≡ y
+    → (r >>= next) ≡ y
+goes next at is = ap (λ r. r >>= next) at ∙ is
 
 -- gaps
 abbrev or_bad : Option (List ℕ) → Result (List ℕ) PbmFault
@@ -218,7 +221,8 @@ Bad r = MatchResult r (λ _. Unit {0}) IsBad
 
 goes_bad : {A B : Type 0} (r : Result A PbmFault) (next : A → Result B PbmFault) → Bad r → ((a : A) → Bad (next a))
     → Bad (r >>= next)
-goes_bad r next bad more = bound (λ _. Unit {0}) IsBad r next bad (λ a _. more a) (λ fault is. is)
+goes_bad (Ok a) next bad more = more a
+goes_bad (Err fault) next bad more = bad
 
 if_bad : {A : Type 0} (v : Bool) (a : A) → Bad (if v then (Ok a) else (Err BadHeader))
 if_bad true a = tt

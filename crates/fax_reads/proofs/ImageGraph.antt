@@ -12,7 +12,7 @@ use Rattle.fax_files.specs.declared.pbm.PbmFault.TheVariants.{BadHeader, OutOfLi
 use Rattle.fax_files.specs.Pbm.{Image, IsHead, IsImage, IsImageFault, AreImages, is_within_limits, raster_rows}
 use Rattle.fax_files.specs.laws.Pbm.{ImagesAreReadInOneWay}
 use Rattle.fax_files.proofs.PbmHeadLemmas.{length-take_of}
-use Rattle.fax_rows.specs.reads.CodeReading.{◌>>=◌}
+use Rattle.fax_files.specs.Directory.{◌>>=◌}
 use Rattle.fax_reads.specs.Images.{HeadRead, ImagesRead, read_head, read_raster, read_image, images_after, images_from}
 use Rattle.fax_reads.specs.Images.{read_images}
 use Rattle.fax_reads.specs.laws.Images.{ImagesAreReadByFunctions}

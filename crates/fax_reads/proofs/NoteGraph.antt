@@ -11,15 +11,18 @@ use Rattle.fax_page.specs.declared.Coding.{Coding}
 use Rattle.fax_page.specs.declared.Coding.TheVariants.{Mh, Mr, Mmr}
 use Rattle.fax_page.specs.declared.StripForm.{StripForm}
 use Rattle.fax_page.specs.declared.StripFault.{StripFault}
-use Rattle.fax_page.specs.Lines.{IsLine, white_row}
+use Rattle.fax_bits.specs.Reading.{read}
+use Rattle.fax_page.specs.declared.Dimension.{Dimension}
+use Rattle.fax_page.specs.Lines.{IsLine, read_start, white_row}
+use Rattle.fax_page.proofs.LineParts.{LineParts, parts}
 use Rattle.fax_page.specs.Strip.{AreLines, HasEndMark, HasOtherChoice, IsEndMark, IsNotedAs}
 use Rattle.fax_page.specs.Strip.{row_bits}
-use Rattle.fax_rows.specs.reads.CodeReading.{after_front}
+use Rattle.fax_bits.specs.Codes.{after_front}
 use Rattle.fax_page.specs.Lines.{read_start}
 use Rattle.fax_page.specs.reads.Uncounted.{after_mark}
 use Rattle.fax_page.specs.laws.StripGraphs.{StripsAreReadByFunctions}
 use Rattle.fax_reads.specs.Reports.{has_other_choice, is_all, is_mmr, is_other, strip_notes}
-use Rattle.fax_rows.proofs.CodeGraph.{front_is}
+use Rattle.fax_bits.proofs.CodeLemmas.{front_is}
 use Rattle.fax_page.proofs.EndGraph.{IsAfterMark, has_mark, mark_is}
 
 -- what stands after the end mark
@@ -85,26 +88,26 @@ module _ (strips : StripsAreReadByFunctions) where
       not (is_all (after_front (coded ++ rest) codes)) || has_other_choice form (i + 1) row rest rows
 
   test_is : (form : StripForm) (i : ℕ) (reference : List Colour) (b : List Bool) (row : List Colour)
-      (rows : List (List Colour)) (rest : List Bool) (line : IsLine form i reference b row rest)
+      (rows : List (List Colour)) (rest : List Bool) (dimension : Dimension) (codes : List Bool)
+      → IsLine form i reference b row rest → read_start form.coding i b ≡ read dimension codes
       → has_other_choice form i reference b (row ∷ rows)
-      ≡ tested form i reference row rows line.codes (row_bits line.dimension reference row) rest
-  test_is form i reference b row rows rest line =
+      ≡ tested form i reference row rows codes (row_bits dimension reference row) rest
+  test_is form i reference b row rows rest dimension codes line start =
       let more : List Bool → Bool = λ left. has_other_choice form (i + 1) row left rows in
-      ap (is_other reference row more (read_start form.coding i b))
-      (((strips.line form i reference).answer b row rest).0 line)
-      ∙ ap (λ start. is_other reference row more start (Ok (row, rest)))
-      line.start
+      ap (is_other reference row more (read_start form.coding i b)) line
+      ∙ ap (λ begun. is_other reference row more begun (read row rest)) start
 
   choice_of : (form : StripForm) (i : ℕ) (reference : List Colour) (b : List Bool) (rows : List (List Colour))
       → HasOtherChoice form i reference b rows → has_other_choice form i reference b rows ≡ true
   choice_of form i reference b [] other = absurd other
-  choice_of form i reference b (row ∷ rows) (rest, line, inl other) =
-      test_is form i reference b row rows rest line
+  choice_of form i reference b (row ∷ rows) (rest, line, inl (dimension, codes, start, other)) =
+      test_is form i reference b row rows rest dimension codes line start
       ∙ ap (λ test. not test || has_other_choice form (i + 1) row rest rows)
-      (differ (row_bits line.dimension reference row ++ rest) line.codes other)
+      (differ (row_bits dimension reference row ++ rest) codes other)
   choice_of form i reference b (row ∷ rows) (rest, line, inr other) =
-      test_is form i reference b row rows rest line
-      ∙ or_true (not (is_all (after_front (row_bits line.dimension reference row ++ rest) line.codes)))
+      let begun = parts form i reference b row rest line in
+      test_is form i reference b row rows rest begun.dimension begun.codes line begun.start
+      ∙ or_true (not (is_all (after_front (row_bits begun.dimension reference row ++ rest) begun.codes)))
       (choice_of form (i + 1) row rest rows other)
     where
       or_true : (test : Bool) {more : Bool} → more ≡ true → (test || more) ≡ true
@@ -115,20 +118,23 @@ module _ (strips : StripsAreReadByFunctions) where
       (end : Option StripFault) (left : List Bool) → AreLines form i reference b rows end left
       → has_other_choice form i reference b rows ≡ true → HasOtherChoice form i reference b rows
   is_choice form i reference b [] end left lines e = absurd (true≢false (sym e))
-  is_choice form i reference b (row ∷ rows) end left (rest, due, line, lines) e = (
-    rest,
-    line,
-    by_test (is_all (after_front (row_bits line.dimension reference row ++ rest) line.codes)) refl
-        (is_choice form (i + 1) row rest rows end left lines) (sym (test_is form i reference b row rows rest line) ∙ e),
-  )
+  is_choice form i reference b (row ∷ rows) end left (rest, due, line, lines) e =
+      let begun = parts form i reference b row rest line in (
+        rest,
+        line,
+        by_test begun (is_all (after_front (row_bits begun.dimension reference row ++ rest) begun.codes)) refl
+            (is_choice form (i + 1) row rest rows end left lines)
+            (sym (test_is form i reference b row rows rest begun.dimension begun.codes line begun.start) ∙ e),
+      )
     where
-      by_test : (test : Bool) → is_all (after_front (row_bits line.dimension reference row ++ rest) line.codes) ≡ test
+      by_test : (begun : LineParts form i reference b row rest) (test : Bool)
+          → is_all (after_front (row_bits begun.dimension reference row ++ rest) begun.codes) ≡ test
           → (has_other_choice form (i + 1) row rest rows ≡ true → HasOtherChoice form (i + 1) row rest rows)
           → (not test || has_other_choice form (i + 1) row rest rows) ≡ true
-          → (line.codes ≢ row_bits line.dimension reference row ++ rest)
-          ⊎ HasOtherChoice form (i + 1) row rest rows
-      by_test true at later more = inr (later more)
-      by_test false at later more = inl (λ same. true≢false (sym (ap is_all (alike _ _ same)) ∙ at))
+          → HasOtherCodes form i reference b row rest ⊎ HasOtherChoice form (i + 1) row rest rows
+      by_test begun true at later more = inr (later more)
+      by_test begun false at later more =
+          inl (begun.dimension, begun.codes, begun.start, λ same. true≢false (sym (ap is_all (alike _ _ same)) ∙ at))
 
   -- a strip is noted so
   pub notes_are : (form : StripForm) (b : List Bool) (rows : List (List Colour)) (left : List Bool)

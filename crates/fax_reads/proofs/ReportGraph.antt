@@ -61,9 +61,9 @@ module _ (strips : StripsAreReadByFunctions) where
   in_strip_is form p s (Some bytes) =
       let strip = strip_form form s in
       let b = bits form.order bytes in
-      let read = read_strip strip b in
-      by_end form p s bytes read.rows read.left read.end
-      ((strips.strip strip b read.rows read.end read.left).1 refl)
+      let all = read_strip strip b in
+      by_end form p s bytes all.rows all.left all.end
+      ((strips strip b all.rows all.end all.left).1 refl)
 
   module _ (file : List ℕ) where
     noted_is : (at : Next) → IsNoted file at (read_noted file at)
@@ -313,7 +313,7 @@ module _ (strips : StripsAreReadByFunctions)
     strip_of form p s (Some bytes) (goes_on notes to) (rows, found, noted, is, to_is) =
         let strip = strip_form form s in
         let b = bits form.order bytes in
-        let read = (strips.strip strip b rows None noted.left).0 noted.lines in
+        let read = (strips strip b rows None noted.left).0 noted.lines in
         let same = once strip b rows rows (strip_notes strip b rows noted.left) found
         (notes_are strips strip b rows noted.left noted.lines) noted in
         let after : Next = if s + 1 == form.strips then (p + 1, None) else (p, Some (s + 1)) in
@@ -322,7 +322,7 @@ module _ (strips : StripsAreReadByFunctions)
     strip_of form p s (Some bytes) (ends_as end) (rows, fault, left, lines, is) =
         let strip = strip_form form s in
         let b = bits form.order bytes in
-        let read = (strips.strip strip b rows (Some fault) left).0 lines in
+        let read = (strips strip b rows (Some fault) left).0 lines in
         ap (λ (all : StripRead). noted_by form p s b all.rows all.left all.end) read ∙ rw is refl
 
     single_strip : (form : PageForm) (p s : ℕ) (found : Option (List ℕ)) → IsSingle (IsStripNoted form p s found)

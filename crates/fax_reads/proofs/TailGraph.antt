@@ -17,7 +17,7 @@ use Rattle.fax_walk.specs.Items.{IsBegunOn, IsInnerOn, IsRow, IsTailFrom, RowIte
 use Rattle.fax_walk.specs.code.RowPlaces.{FitsStrip}
 use Rattle.fax_walk.proofs.RowLawLemmas.{LinesAreRead, one_tail_from}
 use Rattle.fax_walk.proofs.PageLawLemmas.{one_form_tail}
-use Rattle.fax_rows.specs.reads.CodeReading.{◌>>=◌}
+use Rattle.fax_files.specs.Directory.{◌>>=◌}
 use Rattle.fax_reads.specs.Files.{rows_from}
 use Rattle.fax_reads.specs.TailReading.{begin_on, fits_strip, form_tail_from, is_inner_on, read_form_tail}
 use Rattle.fax_reads.specs.TailReading.{read_tail, tail_from}

@@ -15,19 +15,20 @@ use Rattle.fax_walk.specs.declared.end.End.{End}
 use Rattle.fax_walk.specs.declared.end.End.TheVariants.{Fault, Outside}
 use Rattle.fax_walk.specs.Pages.{FormItem, NextItem, goes_on, ends_as, File, Strip, read_page}
 use Rattle.fax_walk.specs.Items.{RowItem, RowPlace, first_at, exchanged, before, place_after}
-use Rattle.fax_page.specs.reads.Lines.{read_line}
+use Rattle.fax_bits.specs.Reading.{Read, read, failed}
+use Rattle.fax_page.specs.Lines.{read_line}
 
 -- the row that was read at a place of a strip and the place after it, or the end
-abbrev pub row_or_end : PageForm → RowPlace → List ℕ → Result (List Colour × List Bool) StripFault
+abbrev pub row_or_end : PageForm → RowPlace → List ℕ → Read (List Colour) StripFault
     → NextItem RowItem RowPlace
-row_or_end form at bytes (Err fault) = ends_as (Fault at.page at.row (Strip fault))
-row_or_end form at bytes (Ok line) =
+row_or_end form at bytes (failed fault) = ends_as (Fault at.page at.row (Strip fault))
+row_or_end form at bytes (read row rest) =
     let item : RowItem = record {
       page = at.page;
       form = form;
       row = at.row;
-      pels = exchanged form line.0;
-      bits = 8 * length bytes - length line.1;
+      pels = exchanged form row;
+      bits = 8 * length bytes - length rest;
     } in
     goes_on item (place_after item)
 

@@ -9,7 +9,7 @@ use Rattle.fax_files.specs.declared.pbm.PbmFault.{PbmFault}
 use Rattle.fax_files.specs.declared.pbm.PbmFault.TheVariants.{BadHeader, OutOfLimits, ShortRaster}
 use Rattle.fax_files.specs.Page.{is_between}
 use Rattle.fax_files.specs.Pbm.{Image, is_white_space, is_within_limits, raster_rows}
-use Rattle.fax_rows.specs.reads.CodeReading.{◌>>=◌}
+use Rattle.fax_files.specs.Directory.{◌>>=◌}
 
 -- what stands after `P4`, the bytes 80 and 52
 abbrev pub after_magic : List ℕ → Result (List ℕ) PbmFault

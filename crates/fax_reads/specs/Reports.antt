@@ -26,9 +26,10 @@ use Rattle.fax_walk.specs.declared.end.End.TheVariants.{Fault}
 use Rattle.fax_walk.specs.declared.walk.Place.{Place}
 use Rattle.fax_walk.specs.Pages.{FilePage, NextItem, goes_on, ends_as, File, Strip, read_page}
 use Rattle.fax_walk.specs.Report.{note_if, notes_on_strip}
-use Rattle.fax_rows.specs.reads.CodeReading.{after_front}
-use Rattle.fax_page.specs.Lines.{read_start}
-use Rattle.fax_page.specs.reads.Lines.{read_line, read_strip}
+use Rattle.fax_bits.specs.Codes.{after_front}
+use Rattle.fax_bits.specs.Reading.{Read, read}
+use Rattle.fax_page.specs.Lines.{read_line, read_start}
+use Rattle.fax_page.specs.reads.Lines.{read_strip}
 use Rattle.fax_page.specs.reads.Uncounted.{after_mark}
 use Rattle.fax_reads.specs.Files.{AllRead, read_all, read_rows}
 
@@ -38,11 +39,10 @@ is_all (Some []) = true
 is_all _ = false
 
 -- the codes of a row, or of one of those after it, are others than those that T.4 chooses
-abbrev pub is_other : List Colour → List Colour → (List Bool → Bool)
-    → Result (Dimension × List Bool) StripFault
-    → Result (List Colour × List Bool) StripFault → Bool
-is_other reference row more (Ok start) (Ok line) =
-    not (is_all (after_front (row_bits start.0 reference row ++ line.1) start.1)) || more line.1
+abbrev pub is_other : List Colour → List Colour → (List Bool → Bool) → Read Dimension StripFault
+    → Read (List Colour) StripFault → Bool
+is_other reference row more (read dimension codes) (read _ rest) =
+    not (is_all (after_front (row_bits dimension reference row ++ rest) codes)) || more rest
 is_other reference row more _ _ = false
 
 abbrev pub has_other_choice : StripForm → ℕ → List Colour → List Bool → List (List Colour) → Bool
@@ -79,8 +79,8 @@ abbrev pub noted_in : PageForm → ℕ → ℕ → Option (List ℕ) → NextIte
 noted_in form p s None = ends_as (Fault p (s * form.rows_per_strip) (File StripOutside))
 noted_in form p s (Some bytes) =
     let b = bits form.order bytes in
-    let read = read_strip (strip_form form s) b in
-    noted_by form p s b read.rows read.left read.end
+    let strip = read_strip (strip_form form s) b in
+    noted_by form p s b strip.rows strip.left strip.end
 
 -- what is noted of a page's directory, or of a strip of it
 abbrev pub noted_on : List ℕ → ℕ → Option ℕ → FilePage → NextItem (List Note) (ℕ × Option ℕ)

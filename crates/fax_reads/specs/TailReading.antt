@@ -12,7 +12,7 @@ use Rattle.fax_walk.specs.declared.end.End.{End}
 use Rattle.fax_walk.specs.declared.end.End.TheVariants.{Outside}
 use Rattle.fax_walk.specs.Pages.{FilePage, FormItem, LongPlace, first_page, read_page}
 use Rattle.fax_walk.specs.Items.{RowItem, RowPlace, begun_cursor, first_at, inner_at}
-use Rattle.fax_rows.specs.reads.CodeReading.{◌>>=◌}
+use Rattle.fax_files.specs.Directory.{◌>>=◌}
 use Rattle.fax_reads.specs.Files.{AllRead, forms_from, rows_from}
 
 -- the bits of a place are in the strip, and its runs the longest ones of a row of the width; both

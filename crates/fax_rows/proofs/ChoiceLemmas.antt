@@ -15,7 +15,8 @@ use Rattle.fax_bits.specs.declared.mode_codes.ModeCode.TheVariants.{Pass, Horizo
 use Rattle.fax_bits.specs.laws.Codes.{RunBitsAreRead}
 use Rattle.fax_bits.specs.views.Codes.{IsWritten}
 use Rattle.fax_bits.specs.Written.{run_bits}
-use Rattle.fax_rows.specs.Rows.{other, pel, next_change, is_right_of, b1, b2, Position, IsStepBy, a0_number}
+use Rattle.fax_rows.specs.Rows.{other, pel, next_change, is_right_of, b1, b2, Position, a0_number}
+use Rattle.fax_rows.specs.code.CodingSteps.{IsStepBy}
 use Rattle.fax_rows.specs.laws.Rows.{HasWidth}
 use Rattle.fax_rows.specs.code.Choice.{places, colour_of, chosen_mode, run_pair_bits, next_a0}
 use Rattle.fax_rows.proofs.ChangeLemmas.{IsNextChange, next_change_is, colour_up_to, colour_at, next_is_ahead}

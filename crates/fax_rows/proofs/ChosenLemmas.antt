@@ -19,7 +19,8 @@ use Rattle.fax_bits.specs.declared.mode_codes.ModeCode.TheVariants.{Pass, Horizo
 use Rattle.fax_bits.specs.Written.{mode_bits, run_bits}
 use Rattle.fax_rows.specs.Rows.{other, pel, pel_before, is_changing, is_right_of, next_change, Position, first_pel}
 use Rattle.fax_rows.specs.Rows.{a0_number}
-use Rattle.fax_rows.specs.Rows.{coloured_up_to, IsVerticalStep}
+use Rattle.fax_rows.specs.Rows.{coloured_up_to}
+use Rattle.fax_rows.specs.code.CodingSteps.{IsVerticalStep}
 use Rattle.fax_rows.specs.code.Seen.{b1_from, b2_from}
 use Rattle.fax_rows.specs.code.Choice.{Places, places, colour_of, chosen_mode, run_pair_bits, next_a0}
 use Rattle.fax_rows.specs.code.Chosen.{GoesOnFrom, IsStepOf, IsChosenPair}

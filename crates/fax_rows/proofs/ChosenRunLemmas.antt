@@ -1,19 +1,22 @@
 -- A row in one-dimensional coding that is read by its longest runs has the bits that are written.
 use Rattle.std.proofs.lemmas.Grind.{common_steps}
 use Rattle.std.proofs.Common.{◌≡◌, ℕ, ◌-◌, ◌<◌, ◌≤◌, ◌^◌, List, [], ◌∷◌, ◌++◌, length, get_or, Bool, refl, ap, sym, ◌∙◌}
-use Rattle.std.proofs.Common.{subst, arith, inl, inr, append_assoc, append-nil}
+use Rattle.std.proofs.Common.{arith, inl, inr, append_assoc, append-nil}
 use Rattle.std.specs.Prelude.{◌⊎◌, sum}
 use Rattle.fax_bits.specs.declared.Colour.{Colour}
 use Rattle.fax_bits.specs.declared.Colour.TheVariants.{White}
 use Rattle.fax_bits.specs.Written.{run_bits}
 use Rattle.fax_rows.specs.Coded.{alternating_bits, one_dimensional_bits}
-use Rattle.fax_rows.specs.Rows.{other, pels_of, runs_of, IsOneDimensionalRow}
+use Rattle.fax_rows.specs.Rows.{other, pels_of, runs_of}
 use Rattle.fax_rows.proofs.CodedRunLemmas.{colour_after_runs}
-use Rattle.fax_rows.specs.laws.Rows.{OneDimensionalBitsAreOneRow}
+use Rattle.fax_rows.specs.laws.Rows.{OneDimensionalBitsAreRead}
+use Rattle.fax_bits.specs.Reading.{read}
+use Rattle.fax_bits.proofs.StepsLemmas.{one_answer}
+use Rattle.fax_rows.specs.ReadRows.{read_one_dimensional}
 use Rattle.fax_rows.proofs.GivenRunLemmas.{longest_are_back}
 use Rattle.fax_rows.proofs.RowLaws.{length-pels_of}
 use Rattle.fax_rows.proofs.RowLemmas.{colour_after_runs-push}
-use Rattle.fax_rows.proofs.RunGraph.{sum-cons}
+use Rattle.fax_rows.proofs.RunReadLemmas.{sum-cons}
 use Rattle.fax_rows.proofs.RunLemmas.{sum-push}
 
 -- the bits begin with those of runs, of which the first alone may have no pels
@@ -74,18 +77,19 @@ runs_go_on b total place colour mid rest so_far right run fits =
     }
 
 -- these are the longest runs of the row that is read
-pub runs_end : OneDimensionalBitsAreOneRow → (width : ℕ) (b : List Bool) (total : ℕ) (colour : Colour)
+pub runs_end : OneDimensionalBitsAreRead → (width : ℕ) (b : List Bool) (total : ℕ) (colour : Colour)
     (row : List Colour)
     (rest : List Bool) → AreWrittenRuns b total colour rest → total ≡ width → 0 < width → width < 2 ^ 16
-    → IsOneDimensionalRow width b row rest → b ≡ one_dimensional_bits row ++ rest
-runs_end one width b total colour row rest written done some short read =
+    → read_one_dimensional width b ≡ read row rest → b ≡ one_dimensional_bits row ++ rest
+runs_end back width b total colour row rest written done some short is =
     let own = pels_of White written.runs in
     let len : length own ≡ width = length-pels_of White written.runs ∙ sym written.sum_is ∙ done in
     let longest : runs_of own ≡ written.runs =
     longest_are_back written.runs width some (record { whole = sym written.sum_is ∙ done; some = written.some }) in
     let bits : b ≡ one_dimensional_bits own ++ rest = written.bits
     ∙ ap (λ runs. alternating_bits White runs ++ rest) (sym longest) in
-    let same = (one own row rest rest (record { some = omega (arith, len); short = omega (arith, len) })
-    (subst (λ c. IsOneDimensionalRow (length own) c row rest) bits
-    (subst (λ n. IsOneDimensionalRow n b row rest) (sym len) read))).0 in
+    let again : read_one_dimensional width b ≡ read own rest = ap (λ n. read_one_dimensional n b) (sym len)
+    ∙ ap (read_one_dimensional (length own)) bits
+    ∙ back own rest (record { some = omega (arith, len); short = omega (arith, len) }) in
+    let same : own ≡ row = (one_answer again is).0 in
     bits ∙ ap (λ pels. one_dimensional_bits pels ++ rest) same

@@ -9,7 +9,8 @@ use Rattle.fax_bits.specs.Codes.{Takes}
 use Rattle.fax_bits.specs.Tables.{modes}
 use Rattle.fax_rows.specs.declared.two_dimensional.steps.PlacedReached.{PlacedReached}
 use Rattle.fax_rows.specs.declared.placed_rows.PlacedRow.{PlacedRow}
-use Rattle.fax_rows.specs.Rows.{Position, first_pel, coloured_up_to, IsVerticalStep}
+use Rattle.fax_rows.specs.Rows.{Position, first_pel, coloured_up_to}
+use Rattle.fax_rows.specs.code.CodingSteps.{IsVerticalStep}
 use Rattle.fax_rows.specs.code.Seen.{b2_from}
 use Rattle.fax_rows.specs.code.Chosen.{IsChosenStep, IsChosenPair}
 use Rattle.fax_rows.specs.code.PlacedRow.{placed_pels}

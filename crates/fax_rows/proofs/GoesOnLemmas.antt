@@ -11,31 +11,28 @@ use Rattle.fax_bits.specs.Codes.{Takes, bits_of}
 use Rattle.fax_bits.specs.views.Source.{Source}
 use Rattle.fax_rows.specs.declared.two_dimensional.horizontal_runs.Due.{Due}
 use Rattle.fax_rows.specs.declared.two_dimensional.horizontal_runs.Due.TheVariants.{Mode, Runs}
-use Rattle.fax_rows.specs.Rows.{Position, beginning, AreSteps, IsStep, IsStepBy}
+use Rattle.fax_rows.specs.Rows.{Position, beginning}
+use Rattle.fax_rows.specs.code.CodingSteps.{IsStep, IsStepBy}
 use Rattle.fax_rows.specs.code.Chosen.{AreChosenSteps, GoesOn, GoesOnAsChosen}
 use Rattle.fax_rows.specs.code.Due.{AreRunsDue, IsDue}
 use Rattle.fax_rows.proofs.ChosenRowLemmas.{IsChosenSoFar, chosen_begins, chosen_goes_on as row_goes_on}
 use Rattle.fax_rows.proofs.RunLemmas.{run_after}
 
 pub no_step : (reference : List Colour) (at : Position) (b : List Bool) → GoesOn reference at b at b
-no_step reference at b = record { positions = []; steps = (refl, refl) }
+no_step reference at b = record { front = []; parts = refl; reads = refl }
 
 pub no_chosen_step : (reference : List Colour) (at : Position) (b : List Bool) → GoesOnAsChosen reference at b at b
 no_chosen_step reference at b = record { positions = []; steps = (refl, refl) }
-
-more_steps : (reference : List Colour) (first : Position) (b : List Bool) (before : List Position) (old : Position)
-    (mid : List Bool) (after : List Position) (new : Position) (rest : List Bool)
-    → AreSteps reference first b before old mid → AreSteps reference old mid after new rest
-    → AreSteps reference first b (before ++ after) new rest
-more_steps reference first b [] old mid after new rest steps more = grind arith
-more_steps reference first b (next ∷ before) old mid after new rest steps more =
-    (steps.0, steps.1, steps.2, more_steps reference next steps.1 before old mid after new rest steps.3 more)
 
 pub goes_further : {reference : List Colour} {first : Position} {b : List Bool} {old : Position} {mid : List Bool}
     {new : Position}
     {rest : List Bool} → GoesOn reference first b old mid → GoesOn reference old mid new rest
     → GoesOn reference first b new rest
-goes_further some more = grind (arith, more_steps)
+goes_further {rest = rest} some more = record {
+  front = some.front ++ more.front;
+  parts = some.parts ∙ ap (λ c. some.front ++ c) more.parts ∙ sym (append_assoc some.front more.front rest);
+  reads = some.reads ∙ more.reads;
+}
 
 more_chosen : (reference : List Colour) (first : Position) (b : List Bool) (before : List Position) (old : Position)
     (mid : List Bool) (after : List Position) (new : Position) (rest : List Bool)
@@ -81,7 +78,7 @@ code_leaves : {M : Type 0} {table : List (CodeEntry M)} {b : List Bool} {m : M} 
     → Takes table b m rest → Leaves b rest
 code_leaves taken = (bits_of taken.entry, taken.spelled)
 
-step_leaves : (reference : List Colour) (old : Position) (b : List Bool) (new : Position) (rest : List Bool)
+pub step_leaves : (reference : List Colour) (old : Position) (b : List Bool) (new : Position) (rest : List Bool)
     → IsStep reference old b new rest → Leaves b rest
 step_leaves reference old b new rest step = leaves_more (code_leaves step.taken) (by step.mode step.step)
   where
@@ -91,17 +88,9 @@ step_leaves reference old b new rest step = leaves_more (code_leaves step.taken)
     by Horizontal is = leaves_more (run_after is.first_run) (run_after is.second_run)
     by Extension is = absurd is
 
-steps_leave : (reference : List Colour) (old : Position) (b : List Bool) (positions : List Position) (new : Position)
-    (rest : List Bool)
-    → AreSteps reference old b positions new rest → Leaves b rest
-steps_leave reference old b [] new rest steps = ([], steps.1)
-steps_leave reference old b (next ∷ positions) new rest steps =
-    leaves_more (step_leaves reference old b next steps.1 steps.2)
-    (steps_leave reference next steps.1 positions new rest steps.3)
-
 pub goes_on_leaves : {reference : List Colour} {old : Position} {b : List Bool} {new : Position} {rest : List Bool}
     → GoesOn reference old b new rest → Leaves b rest
-goes_on_leaves {reference} {old} {b} {new} {rest} goes = steps_leave reference old b goes.positions new rest goes.steps
+goes_on_leaves goes = (goes.front, goes.parts)
 
 pub due_leaves : (colour : Colour) (b : List Bool) (due : Due) (rest : List Bool) → IsDue colour b due rest
     → Leaves b rest

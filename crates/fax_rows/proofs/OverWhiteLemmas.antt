@@ -8,7 +8,8 @@ use Rattle.fax_rows.specs.declared.placed_rows.PlacedRow.{PlacedRow}
 use Rattle.fax_rows.specs.declared.two_dimensional.horizontal_runs.TwoRuns.{TwoRuns}
 use Rattle.fax_rows.specs.declared.two_dimensional.over_white.ReachedOverWhite.{ReachedOverWhite}
 use Rattle.fax_rows.specs.declared.two_dimensional.steps.PlacedReached.{PlacedReached}
-use Rattle.fax_rows.specs.Rows.{b1, b2, is_right_of, first_pel, IsVerticalStep}
+use Rattle.fax_rows.specs.Rows.{b1, b2, is_right_of, first_pel}
+use Rattle.fax_rows.specs.code.CodingSteps.{IsVerticalStep}
 use Rattle.fax_rows.specs.code.Due.{AreReadRuns}
 use Rattle.fax_rows.specs.code.OverWhite.{placed_over_white, HavePels}
 use Rattle.fax_rows.specs.code.PlacedReached.{placed_position, IsReadTo, IsReadInside, IsPairReadOn}

@@ -1,63 +1,95 @@
 -- A row in one-dimensional coding that is read run by run, and a white run and the black one after
 -- it that are read at once.
 use Rattle.std.proofs.lemmas.Grind.{common_steps}
-use Rattle.std.proofs.Common.{◌≡◌, ℕ, ◌+◌, ◌-◌, ◌<◌, ◌≤◌, List, ◌++◌, take, Bool, ap, sym, ◌∙◌, subst, arith, inl}
+use Rattle.std.proofs.Common.{◌≡◌, ℕ, ◌+◌, ◌-◌, ◌<◌, ◌≤◌, List, [], ◌++◌, length, take, get_or, replicate, Bool}
+use Rattle.std.proofs.Common.{refl, ap, sym, ◌∙◌, subst, arith, inl}
 use Rattle.std.specs.Prelude.{◌⊎◌}
+use Rattle.std.proofs.Math.ListN.{get_or-append}
+use Rattle.std.proofs.Math.Seq.{get_or-append_right}
+use Rattle.std.proofs.lemmas.List.{ext_get_or, get_or-replicate}
 use Rattle.fax_bits.specs.declared.Colour.{Colour}
 use Rattle.fax_bits.specs.declared.Colour.TheVariants.{White, Black}
 use Rattle.fax_bits.specs.declared.pairs.Pair.{Pair}
-use Rattle.fax_bits.specs.Codes.{IsRun}
+use Rattle.fax_bits.specs.Reading.{read, failed}
 use Rattle.fax_bits.specs.Written.{run_bits}
 use Rattle.fax_bits.specs.views.Pairs.{IsPairRead}
 use Rattle.fax_bits.specs.views.Source.{Source}
+use Rattle.fax_rows.specs.declared.RowFault.{RowFault}
 use Rattle.fax_rows.specs.Rows.{other}
+use Rattle.fax_rows.specs.ReadRows.{Runs, read_run, read_runs, read_one_dimensional}
 use Rattle.fax_rows.specs.code.Put.{ArePut, HasRoom}
-use Rattle.fax_rows.specs.code.Turns.{turned, pels_by, IsTurnedFrom, TurnsAt}
+use Rattle.fax_rows.specs.code.Turns.{row_of, turned, pels_by, IsTurnedFrom, TurnsAt}
 use Rattle.fax_rows.proofs.ChosenRunLemmas.{AreWrittenRuns, runs_begin, runs_go_on}
-use Rattle.fax_rows.proofs.PlacedReadLemmas.{put_on, run_turned}
+use Rattle.fax_rows.proofs.PlacedReadLemmas.{put_on}
 use Rattle.fax_rows.proofs.PlacedRowLemmas.{turned-first}
-use Rattle.fax_rows.proofs.RowLemmas.{IsRowSoFar}
+use Rattle.fax_rows.proofs.RowRuleLemmas.{a_run, no_run, all_runs}
+use Rattle.fax_rows.proofs.RunReadLemmas.{run_read}
+use Rattle.fax_rows.proofs.TurnLemmas.{length-pels_by, pel-pels_by}
+
+-- pels that places give
+pub record AreFirstPels (front : List Colour) (total : ℕ) (places : List ℕ) : Type 0 where
+  pub long : length front ≡ total
+  pub pels : (k : ℕ) → k < total → turned Black places k ≡ get_or front k White
 
 -- the places of the runs that are read, after which the row has a colour; where they are seen to be
 -- chosen, the bits are written so
 pub record HasRead (width : ℕ) (b : List Bool) (chosen : Type 0) (total : ℕ) (colour : Colour) (places : List ℕ)
     (end : ℕ)
     (rest : List Bool) : Type 0 where
-  pub so_far : IsRowSoFar width b total colour (pels_by width (take end places)) rest
+  pub front : List Colour
+  pub same : read_one_dimensional width b ≡ read_runs width (record { pels = front; colour = colour }) rest
+  pub first : AreFirstPels front total (take end places)
   pub after : (i : ℕ) → total ≤ i → turned Black (take end places) i ≡ colour
   pub put : ArePut width places end total
   pub written : chosen → AreWrittenRuns b total colour rest
 
 pub none_read : {width : ℕ} {places : List ℕ} (b : List Bool) (chosen : Type 0) → HasRoom width places
     → HasRead width b chosen 0 White places 1 b
-none_read b chosen room = grind (arith, turned-first, runs_begin)
+none_read {width} {places} b chosen room = record {
+  front = [];
+  same = refl;
+  first = record { long = refl; pels = λ k h. absurd (omega (arith, h)) };
+  after = grind (arith, turned-first);
+  put = grind (arith, turned-first);
+  written = λ h. runs_begin b;
+}
+
+first_more : (front : List Colour) (total place : ℕ) (colour : Colour) (old new : List ℕ)
+    → AreFirstPels front total old → ((i : ℕ) → total ≤ i → turned Black old i ≡ colour) → total ≤ place
+    → IsTurnedFrom old new place → AreFirstPels (front ++ replicate (place - total) colour) place new
+first_more front total place colour old new first after right turn =
+    grind (arith, common_steps, get_or-append, get_or-append_right, get_or-replicate)
 
 pub read_on : {width : ℕ} {b : List Bool} {chosen also : Type 0} {total place : ℕ} {colour : Colour} {old new : List ℕ}
     {end next : ℕ} {mid rest : List Bool}
-    → HasRead width b chosen total colour old end mid → total < width → IsRun colour mid (place - total) rest
+    → HasRead width b chosen total colour old end mid → total < width → read_run colour width total mid
+      ≡ read place rest
     → total ≤ place
     → place ≤ width → TurnsAt old new end next place
     → (also → chosen × (mid ≡ run_bits colour (place - total) ++ rest)
     × ((0 < place - total) ⊎ ((total ≡ 0) × (colour ≡ White))))
     → HasRead width b also place (other colour) new next rest
-read_on {width} {b} {chosen} {also} {total} {place} {colour} {old} {new} {end} {next} {mid} {rest} read unfinished run
-    right
-    within turns choice =
-    let sum : total + (place - total) ≡ place = omega arith in
-    let turn_there : IsTurnedFrom (take end old) (take next new) (total + (place - total)) =
-    subst (λ n. IsTurnedFrom (take end old) (take next new) n) (sym sum) turns.turned in
+read_on {width} {b} {chosen} {also} {total} {place} {colour} {old} {new} {end} {next} {mid} {rest} before unfinished run
+    right within turns choice =
+    let at : Runs = record { pels = before.front; colour = colour } in
+    let long : length before.front ≡ total = before.first.long in
     record {
-      so_far = subst (λ n. IsRowSoFar width b n (other colour) (pels_by width (take next new)) rest) sum
-          (run_turned read.so_far unfinished (omega (arith, sum)) run read.after turn_there);
-      after = λ i h. turns.turned.right i h ∙ ap other (read.after i (omega arith));
-      put = put_on read.put turns within;
+      front = before.front ++ replicate (place - total) colour;
+      same =
+          before.same
+          ∙ a_run width at place mid rest (omega (arith, long, unfinished))
+          (ap (λ n. read_run colour width n mid) long ∙ run)
+          ∙ ap (λ n. read_runs width (record {
+            pels = before.front ++ replicate (place - n) colour;
+            colour = other colour;
+          }) rest) long;
+      first = first_more before.front total place colour (take end old) (take next new) before.first before.after right
+          turns.turned;
+      after = λ i h. turns.turned.right i h ∙ ap other (before.after i (omega arith));
+      put = put_on before.put turns within;
       written = λ h.
-          let is = choice h in runs_go_on b total place colour mid rest (read.written is.0) right is.1 is.2;
+          let is = choice h in runs_go_on b total place colour mid rest (before.written is.0) right is.1 is.2;
     }
-
-run_again : (colour : Colour) (b : List Bool) (total run : ℕ) (rest : List Bool) → IsRun colour b run rest
-    → IsRun colour b (total + run - total) rest
-run_again colour b total run rest is = grind (arith, common_steps)
 
 written_again : (colour : Colour) (b : List Bool) (total run : ℕ) (rest : List Bool) → b ≡ run_bits colour run ++ rest
     → b ≡ run_bits colour (total + run - total) ++ rest
@@ -70,20 +102,23 @@ pub pair_read_on : {width : ℕ} {b : List Bool} {chosen : Type 0} {total : ℕ}
     → total + pair.white + pair.black ≤ width → TurnsAt old mid end next (total + pair.white)
     → TurnsAt mid new next last (total + pair.white + pair.black)
     → HasRead width b chosen (total + pair.white + pair.black) White new last rest
-pair_read_on {width} {b} {chosen} {total} {colour} {old} {mid} {new} {end} {next} {last} {left} {rest} {pair} read white
+pair_read_on {width} {b} {chosen} {total} {colour} {old} {mid} {new} {end} {next} {last} {left} {rest} {pair} before
+    white
     unfinished is
     within turns again =
     let some = is.black_some in
+    let first = run_read width total pair.white is.white (omega arith) in
+    let second = run_read width (total + pair.white) pair.black is.black (omega arith) in
     read_on {chosen = chosen}
-    (read_on {also = chosen} (subst (λ c. HasRead width b chosen total c old end left) white read) unfinished
-    (run_again White left total pair.white is.middle is.white) (omega arith) (omega arith) turns
+    (read_on {also = chosen} (subst (λ c. HasRead width b chosen total c old end left) white before) unfinished first.0
+    (omega arith) (omega arith) turns
     (λ h. (
       h,
       written_again White left total pair.white is.middle is.white_written,
       inl
           (omega (arith, is.white_some)),
     )))
-    (omega arith) (run_again Black is.middle (total + pair.white) pair.black rest is.black) (omega arith) (omega arith)
+    (omega arith) second.0 (omega arith) (omega arith)
     again
     (λ h. (
       h,
@@ -97,4 +132,29 @@ pub white_read : {width : ℕ} {b : List Bool} {chosen : Type 0} {ahead again : 
     {places : List ℕ}
     {end : ℕ} → HasRead width b chosen total colour places end ahead.left → colour ≡ White → again ≡ ahead
     → HasRead width b chosen total White places end again.left
-white_read read white same = grind (arith, common_steps)
+white_read before white same = grind (arith, common_steps)
+
+-- a row whose next run has a fault
+pub row_stops : {width : ℕ} {b : List Bool} {chosen : Type 0} {total : ℕ} {colour : Colour} {places : List ℕ} {end : ℕ}
+    {left : List Bool} {fault : RowFault} → HasRead width b chosen total colour places end left → total < width
+    → read_run colour width total left ≡ failed fault → read_one_dimensional width b ≡ failed fault
+row_stops {width = width} {total = total} {colour = colour} {left = left} {fault = fault} before unfinished is =
+    let long : length before.front ≡ total = before.first.long in
+    before.same
+    ∙ no_run width (record { pels = before.front; colour = colour }) left fault (omega (arith, long, unfinished))
+    (ap (λ n. read_run colour width n left) long ∙ is)
+
+-- a row that is read to its end
+pub row_done : {width : ℕ} {b : List Bool} {chosen : Type 0} {total : ℕ} {colour : Colour} {places : List ℕ} {end : ℕ}
+    {rest : List Bool} → HasRead width b chosen total colour places end rest → total ≡ width
+    → read_one_dimensional width b ≡ read (row_of places end width) rest
+row_done {width = width} {total = total} {colour = colour} {places = places} {end = end} {rest = rest} before end_there
+    =
+    let pels = pels_by width (take end places) in
+    let long : length before.front ≡ width = before.first.long ∙ end_there in
+    let whole : before.front ≡ pels = ext_get_or White before.front pels
+    (long ∙ sym (length-pels_by width (take end places)))
+    (λ k h. let inside : k < width = omega (arith, long, h) in
+    sym (pel-pels_by width (take end places) k inside ∙ before.first.pels k (omega (arith, inside, end_there)))) in
+    before.same ∙ all_runs width (record { pels = before.front; colour = colour }) rest long
+    ∙ ap (λ row. read row rest) whole

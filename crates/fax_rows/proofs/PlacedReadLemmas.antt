@@ -8,13 +8,11 @@ use Rattle.std.proofs.Math.Nat.{eq-or-lt_of_le}
 use Rattle.std.proofs.lemmas.List.{ext_get_or}
 use Rattle.fax_bits.specs.declared.Colour.{Colour}
 use Rattle.fax_bits.specs.declared.Colour.TheVariants.{White, Black}
-use Rattle.fax_bits.specs.Codes.{IsRun}
 use Rattle.fax_rows.specs.Rows.{other}
 use Rattle.fax_rows.specs.code.Put.{ArePut}
 use Rattle.fax_rows.specs.code.Turns.{turned, pels_by, IsAscending, IsTurnedFrom, TurnsAt}
 use Rattle.fax_rows.proofs.TurnLemmas.{length-pels_by, pel-pels_by, turned-push_left, turned-push_right, at_least}
 use Rattle.fax_rows.proofs.TurnLemmas.{below_later}
-use Rattle.fax_rows.proofs.RowLemmas.{IsRowSoFar, row_goes_on}
 
 -- a place that is put
 pub turned_on : (places : List ℕ) (end place : ℕ) → end < length places
@@ -81,11 +79,3 @@ below_width places end width up last (inr other) i some h =
 pub ends_within : (places : List ℕ) (end width : ℕ) → IsAscending places end
     → ((i : ℕ) → 0 < i → i < end → get_or places i 0 < width) → end ≤ width + 1
 ends_within places end width up below = grind (arith, at_least)
-
--- one run more
-pub run_turned : {width : ℕ} {b : List Bool} {total n : ℕ} {colour : Colour} {old new : List ℕ} {mid rest : List Bool}
-    → IsRowSoFar width b total colour (pels_by width old) mid → total < width → total + n ≤ width
-    → IsRun colour mid n rest
-    → ((i : ℕ) → total ≤ i → turned Black old i ≡ colour) → IsTurnedFrom old new (total + n)
-    → IsRowSoFar width b (total + n) (other colour) (pels_by width new) rest
-run_turned so_far unfinished within run after turn = grind (arith, row_goes_on, pel-pels_by)

@@ -9,9 +9,14 @@ use Rattle.fax_bits.specs.declared.Colour.TheVariants.{White, Black}
 use Rattle.fax_rows.specs.declared.two_dimensional.steps.Reached.{Reached}
 use Rattle.fax_rows.specs.declared.two_dimensional.steps.PlacedReached.{PlacedReached}
 use Rattle.fax_rows.specs.Rows.{other, is_right_of, b2, Position, beginning, a0_number, coloured_up_to}
-use Rattle.fax_rows.specs.Rows.{IsInRow, IsVerticalStep, IsHorizontalStep, IsTwoDimensionalRow}
+use Rattle.fax_rows.specs.code.CodingSteps.{IsInRow, IsVerticalStep, IsHorizontalStep}
 use Rattle.fax_rows.specs.declared.RowFault.{RowFault}
-use Rattle.fax_rows.specs.Faults.{IsStepFault, IsTwoDimensionalFault}
+use Rattle.fax_rows.specs.code.CodingSteps.{IsStepFault}
+use Rattle.fax_bits.specs.Reading.{read, failed}
+use Rattle.fax_rows.specs.ReadRows.{read_two_dimensional}
+use Rattle.fax_rows.proofs.StepReadLemmas.{ended, stops, at_width}
+use Rattle.fax_rows.proofs.StepLemmas.{unfinished_below}
+use Rattle.std.proofs.lemmas.List.{take_all}
 use Rattle.fax_rows.specs.code.Reached.{reached_pel, position_of}
 use Rattle.fax_rows.specs.declared.placed_rows.PlacedRow.{PlacedRow}
 use Rattle.fax_rows.specs.code.PlacedRow.{placed_pels, IsB1At}
@@ -262,12 +267,17 @@ pub steps_done : (reference : List Colour) (b : List Bool) (at : Reached) (row :
     (width : ℕ)
     → GoesOn reference beginning b (position_of at row) rest → 0 < width → reached_pel at ≡ width → length row ≡ width
     → length reference ≡ width
-    → IsTwoDimensionalRow reference b row rest
-steps_done reference b at row rest width so_far some done len same = grind (arith, common_steps)
+    → read_two_dimensional reference b ≡ read row rest
+steps_done reference b at row rest width so_far some done len same =
+    so_far.reads
+    ∙ ended reference (position_of at row) rest
+    (at_width at.a0 (length reference) (omega (arith, done, same)) (omega (arith, some, same)))
+    ∙ ap (λ pels. read pels rest) (take_all (reached_pel at) row (omega (arith, done, len)))
 
 -- a step that is no part of the row
 pub fault_here : (reference : List Colour) (b : List Bool) (at : Reached) (row : List Colour) (mid : List Bool)
     → GoesOn reference beginning b (position_of at row) mid → reached_pel at < length reference
     → (fault : RowFault) → IsStepFault reference (position_of at row) mid fault
-    → IsTwoDimensionalFault reference b fault
-fault_here reference b at row mid so_far less fault step = grind (arith, common_steps)
+    → read_two_dimensional reference b ≡ failed fault
+fault_here reference b at row mid so_far less fault step =
+    so_far.reads ∙ stops reference (position_of at row) mid fault (unfinished_below reference at.a0 less) step

@@ -6,7 +6,6 @@ use Rattle.std.proofs.lemmas.Grind.{common_steps}
 use Rattle.fax_bits.specs.declared.Colour.{Colour}
 use Rattle.fax_rows.specs.declared.RowFault.{RowFault}
 use Rattle.fax_rows.specs.declared.two_dimensional.horizontal_runs.RowStop.{RowStop}
-use Rattle.fax_rows.specs.Faults.{IsOneDimensionalFault, IsRunFault}
 use Rattle.fax_rows.specs.code.PlacedReached.{IsReadSoFar}
 use Rattle.fax_rows.specs.code.PlacedRow.{placed_pels}
 use Rattle.fax_rows.specs.code.Reached.{reached_pel}
@@ -16,15 +15,6 @@ use Rattle.fax_rows.specs.declared.placed_rows.PlacedRow.{PlacedRow}
 use Rattle.fax_rows.specs.declared.two_dimensional.steps.PlacedReached.{PlacedReached}
 use Rattle.fax_rows.proofs.PlacedB1Lemmas.{length-placed_pels}
 use Rattle.fax_rows.proofs.PlacedStepLemmas.{fault_here}
-use Rattle.fax_rows.proofs.CodedRunLemmas.{stop_from}
-use Rattle.fax_rows.proofs.PairReadLemmas.{HasRead}
-
-pub row_stops : {width : ℕ} {b : List Bool} {chosen : Type 0} {total : ℕ} {colour : Colour} {places : List ℕ} {end : ℕ}
-    {left : List Bool}
-    {fault : RowFault} → HasRead width b chosen total colour places end left → total < width
-    → IsRunFault colour width total left fault
-    → IsOneDimensionalFault width b fault
-row_stops read unfinished stops = grind (arith, common_steps, stop_from)
 
 -- why a row is not read on, by what else holds of a fault
 pub stop_as : (choice : Bool) {faults others : RowFault → Type 0} (stop : RowStop) → IsStopOf choice faults stop

@@ -12,37 +12,8 @@ use Rattle.fax_bits.specs.Written.{run_bits}
 use Rattle.fax_bits.specs.laws.Codes.{ChosenCodesAreWritten}
 use Rattle.fax_bits.specs.Codes.{Takes, Spells, IsRun, bits_of}
 
--- make-up codes of n pels so far
-pub record IsPartialRun (colour : Colour) (b : List Bool) (n : ℕ) (rest : List Bool) : Type 0 where
-  pub make_up : List ℕ
-  pub spelled : Spells (run_table colour) b (map MakeUp make_up) rest
-  pub sum_is : n ≡ sum make_up
-
-Spells-push : {M : Type 0} (table : List (CodeEntry M)) (b : List Bool) (ms : List M) (m : M) (mid rest : List Bool)
-    → Spells table b ms mid → Takes table mid m rest → Spells table b (ms ++ m ∷ []) rest
-Spells-push table b [] m mid rest spelled taken = (rest, subst (λ x. Takes table x m rest) (sym spelled) taken, refl)
-Spells-push table b (n ∷ ms) m mid rest spelled taken = (
-  spelled.0,
-  spelled.1,
-  Spells-push table spelled.0 ms m mid rest
-      spelled.2 taken,
-)
-
 pub sum-push : (ms : List ℕ) (m : ℕ) → sum (ms ++ m ∷ []) ≡ sum ms + m
 sum-push ms m = grind (arith, common_steps)
-
-pub one_more : (colour : Colour) (b : List Bool) (n m : ℕ) (mid rest : List Bool)
-    → IsPartialRun colour b n mid → Takes (run_table colour) mid (MakeUp m) rest → IsPartialRun colour b (n + m) rest
-one_more colour b n m mid rest part taken = record {
-  make_up = part.make_up ++ m ∷ [];
-  spelled = rw map-append (Spells-push (run_table colour) b (map MakeUp part.make_up) (MakeUp m) mid rest part.spelled
-      taken);
-  sum_is = omega (arith, part.sum_is, sum-push part.make_up m);
-}
-
-pub run_done : (colour : Colour) (b : List Bool) (n m : ℕ) (mid rest : List Bool)
-    → IsPartialRun colour b n mid → Takes (run_table colour) mid (Terminating m) rest → IsRun colour b (n + m) rest
-run_done colour b n m mid rest part taken = grind (arith, Spells-push)
 
 -- make-up codes of the longest run so far: with a run after them that is written, they are one that
 -- is written

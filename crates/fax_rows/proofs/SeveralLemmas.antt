@@ -14,7 +14,8 @@ use Rattle.fax_bits.specs.Tables.{modes}
 use Rattle.fax_bits.specs.views.Verticals.{shift, vertical}
 use Rattle.fax_rows.specs.declared.two_dimensional.steps.PlacedReached.{PlacedReached}
 use Rattle.fax_rows.specs.declared.placed_rows.PlacedRow.{PlacedRow}
-use Rattle.fax_rows.specs.Rows.{other, is_right_of, a0_number, IsVerticalStep}
+use Rattle.fax_rows.specs.Rows.{other, is_right_of, a0_number}
+use Rattle.fax_rows.specs.code.CodingSteps.{IsVerticalStep}
 use Rattle.fax_rows.specs.code.Chosen.{GoesOn, GoesOnAsChosen}
 use Rattle.fax_rows.specs.code.PlacedRow.{placed_pels, IsB1At}
 use Rattle.fax_rows.specs.code.PlacedReached.{placed_position, IsReadTo, IsReadInside, IsReadOn}
@@ -22,6 +23,8 @@ use Rattle.fax_rows.specs.code.Reached.{position_of}
 use Rattle.fax_rows.specs.code.Several.{AreFine}
 use Rattle.fax_rows.specs.code.Turns.{alternate, pels_by, IsAscending, TurnsAt}
 use Rattle.fax_rows.proofs.ChosenStepLemmas.{vertical_chosen}
+use Rattle.fax_rows.proofs.GoesOnLemmas.{no_step, no_chosen_step, goes_further}
+use Rattle.fax_rows.proofs.UnderLemmas.{step_goes_on}
 use Rattle.fax_rows.proofs.PlacedB1Lemmas.{length-placed_pels, b2_is, b1_at_most}
 use Rattle.fax_rows.proofs.PlacedStepLemmas.{vertical_placed, from_start}
 use Rattle.fax_rows.proofs.StepLemmas.{unfinished_below}
@@ -88,7 +91,11 @@ module _ (reference : PlacedRow) (places : List ℕ) where
   pub all_on : (raises : List ℕ) (at : PlacedReached) (b rest : List Bool) → Spells modes b (map vertical raises) rest
       → IsReadInside reference places at → at.b1 + length raises ≤ reference.end
       → AreFine reference.places.now places at.reached.a0 at.end at.b1 raises → AreOn at (length raises) b rest
-  all_on [] at b rest spells here inside fine = grind arith
+  all_on [] at b rest spells here inside fine = subst (λ c. AreOn at zero b c) spells (record {
+    goes_on = no_step (placed_pels reference) (placed_position reference.width places at) b;
+    chosen = no_chosen_step (placed_pels reference) (placed_position reference.width places at) b;
+    so_far = here.so_far;
+  })
   all_on (raised ∷ raises) at b rest spells here inside fine =
       let less : at.b1 < reference.end = omega arith in
       let vertical_step = step at here less raised raises fine in
@@ -97,15 +104,9 @@ module _ (reference : PlacedRow) (places : List ℕ) where
       let more = all_on raises (next places at) spells.0 rest spells.2 (read at here less raised raises fine)
       (omega arith) fine.4 in
       record {
-        goes_on = record {
-          positions = placed_position reference.width places (next places at) ∷ more.goes_on.positions;
-          steps = (
-            unfinished_below (placed_pels reference) at.reached.a0 (omega (arith, here.unfinished, len)),
-            spells.0,
-            record { mode = vertical raised; after = spells.0; taken = spells.1; step = (vertical_step, refl) },
-            more.goes_on.steps,
-          );
-        };
+        goes_on = goes_further (step_goes_on here b _ spells.0
+            (record { mode = vertical raised; after = spells.0; taken = spells.1; step = (vertical_step, refl) }))
+            more.goes_on;
         chosen = record {
           positions = placed_position reference.width places (next places at) ∷ more.chosen.positions;
           steps = (

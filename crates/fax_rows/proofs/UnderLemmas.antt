@@ -17,11 +17,14 @@ use Rattle.fax_bits.specs.Written.{mode_bits}
 use Rattle.fax_bits.specs.laws.Codes.{ModeBitsAreRead}
 use Rattle.fax_rows.specs.declared.two_dimensional.steps.PlacedReached.{PlacedReached}
 use Rattle.fax_rows.specs.declared.placed_rows.PlacedRow.{PlacedRow}
-use Rattle.fax_rows.specs.Rows.{other, Position, IsStep, IsVerticalStep}
+use Rattle.fax_rows.specs.Rows.{other, Position}
+use Rattle.fax_rows.specs.code.CodingSteps.{IsStep, IsVerticalStep}
 use Rattle.fax_rows.specs.code.Chosen.{IsChosenStep, GoesOn, GoesOnAsChosen}
 use Rattle.fax_rows.specs.code.PlacedRow.{placed_pels}
 use Rattle.fax_rows.specs.code.PlacedReached.{placed_position, IsReadTo, IsReadInside, IsReadOn}
 use Rattle.fax_rows.specs.code.Reached.{position_of}
+use Rattle.fax_rows.proofs.GoesOnLemmas.{no_step, no_chosen_step, goes_further, step_leaves}
+use Rattle.fax_rows.proofs.StepReadLemmas.{a_step}
 use Rattle.fax_rows.specs.code.Turns.{alternate, pels_by, IsAscending, IsTurnedFrom, TurnsAt}
 use Rattle.fax_rows.proofs.ChosenStepLemmas.{under_chosen}
 use Rattle.fax_rows.proofs.PlacedB1Lemmas.{length-placed_pels, b1_next}
@@ -35,16 +38,15 @@ pub step_goes_on : {reference : PlacedRow} {places : List ℕ} {at : PlacedReach
     → (b : List Bool) (new : Position) (rest : List Bool)
     → IsStep (placed_pels reference) (placed_position reference.width places at) b new rest
     → GoesOn (placed_pels reference) (placed_position reference.width places at) b new rest
-step_goes_on {reference} {places} {at} here b new rest step = record {
-  positions = new ∷ [];
-  steps = (
-    unfinished_below (placed_pels reference) at.reached.a0
-        (omega (arith, here.unfinished, length-placed_pels reference)),
-    rest,
-    step,
-    (refl, refl),
-  );
-}
+step_goes_on {reference} {places} {at} here b new rest step =
+    let front = step_leaves (placed_pels reference) (placed_position reference.width places at) b new rest step in
+    record {
+      front = front.0;
+      parts = front.1;
+      reads = a_step (placed_pels reference) (placed_position reference.width places at) b new rest
+          (unfinished_below (placed_pels reference) at.reached.a0
+          (omega (arith, here.unfinished, length-placed_pels reference))) step;
+    }
 
 -- in vertical mode, where the distance is said in two ways
 pub vertical_goes_on : {reference : PlacedRow} {places : List ℕ} {at : PlacedReached} → IsReadInside reference places at
@@ -117,7 +119,11 @@ module _ (reference : PlacedRow) (places : List ℕ) where
       → IsReadInside reference places at → at.b1 + k ≤ reference.end
       → ((i : ℕ) → i < k → get_or places (at.end + i) 0 ≡ get_or reference.places.now (at.b1 + i) 0)
       → AreUnder at k b rest
-  all_under zero at b rest spells here inside copied = grind (arith, common_steps)
+  all_under zero at b rest spells here inside copied = subst (λ c. AreUnder at zero b c) spells (record {
+    goes_on = no_step (placed_pels reference) (placed_position reference.width places at) b;
+    chosen = no_chosen_step (placed_pels reference) (placed_position reference.width places at) b;
+    so_far = here.so_far;
+  })
   all_under (suc k) at b rest spells here inside copied =
       let same : at.end + 0 ≡ at.end = omega arith in
       let again : at.b1 + 0 ≡ at.b1 = omega arith in
@@ -137,15 +143,9 @@ module _ (reference : PlacedRow) (places : List ℕ) where
       ap (λ n. get_or places n 0) one ∙ copied (suc i) (omega arith)
       ∙ ap (λ n. get_or reference.places.now n 0) (sym other_one)) in
       record {
-        goes_on = record {
-          positions = placed_position reference.width places (under reference at) ∷ more.goes_on.positions;
-          steps = (
-            unfinished_below (placed_pels reference) at.reached.a0 (omega (arith, here.unfinished, len)),
-            spells.0,
-            record { mode = Vertical (pos 0); after = spells.0; taken = spells.1; step = (vertical, refl) },
-            more.goes_on.steps,
-          );
-        };
+        goes_on = goes_further (step_goes_on here b _ spells.0
+            (record { mode = Vertical (pos 0); after = spells.0; taken = spells.1; step = (vertical, refl) }))
+            more.goes_on;
         chosen = record {
           positions = placed_position reference.width places (under reference at) ∷ more.chosen.positions;
           steps = (

@@ -10,17 +10,12 @@ use Rattle.fax_bits.specs.declared.Colour.{Colour}
 use Rattle.fax_bits.specs.declared.Colour.TheVariants.{White}
 use Rattle.fax_bits.specs.declared.mode_codes.ModeCode.{ModeCode}
 use Rattle.fax_bits.specs.declared.mode_codes.ModeCode.TheVariants.{Pass, Horizontal, Vertical, Extension}
-use Rattle.fax_rows.specs.Rows.{other, b1, b2, Position, beginning, first_pel, IsStepBy, pels_of, AreRuns, AreSteps}
-use Rattle.fax_rows.specs.Rows.{IsTwoDimensionalRow}
+use Rattle.fax_rows.specs.Rows.{other, b1, b2, Position, beginning, first_pel}
+use Rattle.fax_rows.specs.code.CodingSteps.{IsStepBy}
+use Rattle.fax_rows.proofs.RowRuleLemmas.{runs_rule, steps_rule}
 use Rattle.fax_rows.specs.laws.Rows.{RowsHaveTheirWidth}
 use Rattle.fax_rows.proofs.ChangeLemmas.{next_change_is, next_is_ahead, next_of_within, next_of_right}
 use Rattle.fax_rows.proofs.PlacedStepLemmas.{right_after_first}
-
-runs_wide : (width : ℕ) (colour : Colour) (from : ℕ) (b : List Bool) (runs : List ℕ) (rest : List Bool)
-    → AreRuns width colour from b runs rest → from + length (pels_of colour runs) ≡ width
-runs_wide width colour from b [] rest ended = omega (arith, ended.0)
-runs_wide width colour from b (n ∷ runs) rest (unfinished, middle, run, more) =
-    grind (arith, common_steps, runs_wide width (other colour) (from + n) middle runs rest more)
 
 -- a row has its pels up to a0
 abbrev IsPainted : List Colour → Position → Type 0
@@ -57,23 +52,14 @@ step_paints Horizontal reference old b new rest painted step =
     rw step.new_is (omega (arith, length-append {A = Colour}, length-replicate {A = Colour}, painted.0), step.within)
 step_paints Extension reference old b new rest painted step = absurd step
 
-steps_paint : (reference : List Colour) (old : Position) (b : List Bool) (positions : List Position) (new : Position)
-    (rest : List Bool)
-    → IsPainted reference old → AreSteps reference old b positions new rest → IsPainted reference new
-steps_paint reference old b [] new rest painted steps = subst (IsPainted reference) (sym steps.0) painted
-steps_paint reference old b (next ∷ positions) new rest painted (unfinished, middle, step, steps) =
-    steps_paint reference next middle positions new rest (step_paints step.mode reference old step.after next middle
-    painted step.step) steps
-
-row_over_wide : (reference : List Colour) (b : List Bool) (row : List Colour) (rest : List Bool)
-    → IsTwoDimensionalRow reference b row rest → length row ≡ length reference
-row_over_wide reference b row rest is =
-    let painted = steps_paint reference beginning b is.positions is.last rest (refl, omega arith) is.steps in
-    ap length is.pels ∙ painted.0 ∙ ap (λ (o : Option ℕ). unwrap_or o 0) is.ends
-
 pub rows_have_their_width : RowsHaveTheirWidth
 rows_have_their_width = record {
-  one_dimensional = λ width b row rest is. ap length is.pels ∙ omega
-      (arith, runs_wide width White 0 b is.runs rest is.coded);
-  two_dimensional = row_over_wide;
+  one_dimensional = λ width b row rest is.
+      runs_rule width (λ at b pels rest. length pels ≡ width) (λ at b end. end)
+      (λ at to b left pels rest unfinished run more. more) (record { pels = []; colour = White }) b row rest is;
+  two_dimensional = λ reference b row rest is.
+      let whole = steps_rule reference (λ at b. IsPainted reference at)
+      (λ at b new rest step painted. step_paints step.mode reference at step.after new rest painted step.step)
+      beginning b row rest is (refl, omega arith) in
+      ap length whole.3 ∙ whole.1.0 ∙ ap (λ (o : Option ℕ). unwrap_or o 0) whole.2;
 }

@@ -13,24 +13,27 @@ use Rattle.fax_bits.specs.Codes.{Takes}
 use Rattle.fax_bits.specs.laws.Codes.{RunBitsAreRead, ModeBitsAreRead}
 use Rattle.fax_bits.specs.Written.{mode_bits}
 use Rattle.fax_bits.specs.Tables.{modes}
-use Rattle.fax_rows.specs.Rows.{other, pels_of, runs_after, runs_of, IsOneDimensionalRow, Position, AreSteps}
-use Rattle.fax_rows.specs.Rows.{IsTwoDimensionalRow}
+use Rattle.fax_rows.specs.Rows.{other, pels_of, runs_after, runs_of, Position}
 use Rattle.fax_rows.specs.laws.Rows.{HasWidth}
 use Rattle.fax_rows.specs.Coded.{step_bits, two_dimensional_bits, alternating_bits, one_dimensional_bits}
 use Rattle.fax_rows.specs.code.Choice.{places, colour_of, chosen_mode, run_pair_bits, next_a0}
 use Rattle.fax_rows.proofs.ChangeLemmas.{first_of}
 use Rattle.fax_rows.proofs.RowLaws.{length-pels_of}
-use Rattle.fax_rows.proofs.RunGraph.{sum-cons}
-use Rattle.fax_rows.proofs.CodedRunLemmas.{AreCodedRuns, runs_from}
+use Rattle.std.proofs.Common.{◌-◌, append-nil}
+use Rattle.fax_bits.specs.Written.{run_bits}
+use Rattle.fax_rows.specs.laws.Rows.{OneDimensionalBitsAreRead}
+use Rattle.std.proofs.lemmas.List.{take_all}
+use Rattle.fax_bits.specs.Reading.{read}
+use Rattle.fax_rows.specs.ReadRows.{Runs, read_runs, read_steps, read_two_dimensional}
+use Rattle.fax_rows.proofs.StepReadLemmas.{a_step, ended, at_width}
+use Rattle.fax_rows.proofs.RowRuleLemmas.{runs_to, length-runs_to, a_run, all_runs}
+use Rattle.fax_rows.proofs.RunReadLemmas.{sum-cons, run_read}
 use Rattle.fax_rows.proofs.ChoiceLemmas.{here, passed, colour_after, IsChosen, chosen}
 
--- the bits begin with steps from a position to the row's end, and the row is what they make
-pub record IsWrittenBack (reference row : List Colour) (from : Position) (b more : List Bool) : Type 0 where
-  pub positions : List Position
-  pub last : Position
-  pub steps : AreSteps reference from b positions last more
-  pub ends : last.a0 ≡ Some (length reference)
-  pub pels : row ≡ last.pels
+-- the row is read on to its end
+abbrev IsWrittenBack : List Colour → List Colour → Position → List Bool → List Bool → Type 0
+IsWrittenBack reference row from b more =
+    read_steps reference from b ≡ read row more
 
 -- no step is written at the row's end
 pub step_bits-end : (limit : ℕ) (reference row : List Colour) (a0 : Option ℕ) → first_of a0 ≡ length row
@@ -61,7 +64,13 @@ module _ (runs_read : RunBitsAreRead) (modes_taken : ModeBitsAreRead) (reference
     (limits : HasWidth row) where
   back_at_end : (a0 : Option ℕ) (colour : Colour) (limit : ℕ) (more : List Bool) → first_of a0 ≡ length row
       → IsWrittenBack reference row (here row a0 colour) (step_bits limit reference row a0 ++ more) more
-  back_at_end a0 colour limit more done = grind (arith, common_steps, step_bits-end)
+  back_at_end a0 colour limit more end =
+      let bits : step_bits limit reference row a0 ++ more ≡ more =
+      ap (λ c. c ++ more) (step_bits-end limit reference row a0 end) in
+      ap (read_steps reference (here row a0 colour)) bits
+      ∙ ended reference (here row a0 colour) more
+      (at_width a0 (length reference) (omega (arith, end, same_width)) (omega (arith, limits.some, same_width)))
+      ∙ ap (λ pels. read pels more) (take_all (first_of a0) row (omega (arith, end)))
 
   -- the place and the mode of the step from a0
   abbrev mode_at : Option ℕ → ModeCode
@@ -84,13 +93,11 @@ module _ (runs_read : RunBitsAreRead) (modes_taken : ModeBitsAreRead) (reference
       more
       → IsWrittenBack reference row (here row a0 (colour_of row a0)) (step_bits (suc limit) reference row a0 ++ more)
       more
-  back_by_step limit a0 more unfinished rest rest_is step back = record {
-    positions = here row (Some (next_at a0)) (colour_after (mode_at a0) (colour_of row a0)) ∷ back.positions;
-    last = back.last;
-    steps = (
-      λ same. not_at_width a0 (length row) unfinished (same ∙ ap (λ n. Some n) same_width),
-      rest,
-      record {
+  back_by_step limit a0 more unfinished rest rest_is step back =
+      let next = here row (Some (next_at a0)) (colour_after (mode_at a0) (colour_of row a0)) in
+      a_step reference (here row a0 (colour_of row a0)) (step_bits (suc limit) reference row a0 ++ more) next rest
+      (λ same. not_at_width a0 (length row) unfinished (same ∙ ap (λ n. Some n) same_width))
+      (record {
         mode = mode_at a0;
         after = run_pair_bits (mode_at a0) row a0 (places reference row a0) ++ rest;
         taken = subst (λ b. Takes modes b (mode_at a0) (run_pair_bits (mode_at a0) row a0 (places reference row a0)
@@ -100,12 +107,8 @@ module _ (runs_read : RunBitsAreRead) (modes_taken : ModeBitsAreRead) (reference
             ∙ sym (bits_of_step limit a0 more unfinished))
             (modes_taken (mode_at a0) _ step.written);
         step = step.step;
-      },
-      back.steps,
-    );
-    ends = back.ends;
-    pels = back.pels;
-  }
+      })
+      ∙ back
 
   pub steps_back : (limit : ℕ) (a0 : Option ℕ) (colour : Colour) (more : List Bool) → first_of a0 ≤ length row
       → length row + 1 ≤ passed a0 + limit → (first_of a0 < length row → colour ≡ colour_of row a0)
@@ -126,17 +129,10 @@ module _ (runs_read : RunBitsAreRead) (modes_taken : ModeBitsAreRead) (reference
       ]
 
   -- a row in two-dimensional coding is read back
-  pub two_dimensional_back : (more : List Bool) → IsTwoDimensionalRow reference
-      (two_dimensional_bits reference row ++ more) row more
+  pub two_dimensional_back : (more : List Bool)
+      → read_two_dimensional reference (two_dimensional_bits reference row ++ more) ≡ read row more
   two_dimensional_back more =
-      let back = steps_back (length row + 1) None White more (omega arith) (omega arith) (λ h. refl) in
-      record {
-        positions = back.positions;
-        last = back.last;
-        steps = back.steps;
-        ends = back.ends;
-        pels = back.pels;
-      }
+      steps_back (length row + 1) None White more (omega arith) (omega arith) (λ h. refl)
 
 replicate_more : (n : ℕ) (colour : Colour) (pels : List Colour)
     → replicate (n + 1) colour ++ pels ≡ replicate n colour ++ (colour ∷ pels)
@@ -170,29 +166,40 @@ fewer_runs White n (Black ∷ pels) some (suc k) h =
 fewer_runs Black n (White ∷ pels) some (suc k) h =
     omega (arith, fewer_runs White 1 pels (omega arith) k (omega arith), sum-cons n (take k (runs_after White 1 pels)))
 
--- written runs are read back
-runs_back : RunBitsAreRead → (colour : Colour) (runs : List ℕ) (more : List Bool) → sum runs < 2 ^ 16
-    → AreCodedRuns colour (alternating_bits colour runs ++ more) runs more
+-- written runs are read back after the pels before them
+runs_back : RunBitsAreRead → (at : Runs) (width : ℕ) (runs : List ℕ) (more : List Bool)
+    → length at.pels + sum runs ≡ width → width < 2 ^ 16
+    → ((k : ℕ) → k < length runs → length at.pels + sum (take k runs) < width)
+    → read_runs width at (alternating_bits at.colour runs ++ more) ≡ read (at.pels ++ pels_of at.colour runs) more
 unfolding alternating_bits
-runs_back runs_read colour [] more short = refl
-runs_back runs_read colour (n ∷ runs) more short = grind (
-  arith,
-  common_steps,
-  runs_back runs_read (other colour) runs
-      more (omega (arith, sum-cons n runs)),
-)
+runs_back runs_read at width [] more whole short below =
+    all_runs width at more (omega (arith, whole)) ∙ ap (λ pels. read pels more) (sym (append-nil at.pels))
+runs_back runs_read at width (n ∷ runs) more whole short below =
+    let from = length at.pels in
+    let rest = alternating_bits (other at.colour) runs ++ more in
+    let b : alternating_bits at.colour (n ∷ runs) ++ more ≡ run_bits at.colour n ++ rest =
+    append_assoc (run_bits at.colour n) (alternating_bits (other at.colour) runs) more in
+    let run = run_read width from n (runs_read at.colour n rest (omega (arith, whole, sum-cons n runs)))
+    (omega (arith, whole, sum-cons n runs)) in
+    let next = runs_to at (from + n) in
+    let long : length next.pels ≡ from + n = length-runs_to at (from + n) (omega arith) in
+    let back = runs_back runs_read next width runs more (omega (arith, long, whole, sum-cons n runs)) short
+    (λ k h. omega (arith, long, below (suc k) (omega arith), sum-cons n (take k runs))) in
+    let count : from + n - from ≡ n = omega arith in
+    let pels : next.pels ++ pels_of (other at.colour) runs ≡ at.pels ++ pels_of at.colour (n ∷ runs) =
+    append_assoc at.pels (replicate (from + n - from) at.colour) (pels_of (other at.colour) runs)
+    ∙ ap (λ k. at.pels ++ (replicate k at.colour ++ pels_of (other at.colour) runs)) count in
+    ap (read_runs width at) b
+    ∙ a_run width at (from + n) (run_bits at.colour n ++ rest) rest (omega (arith, below zero (omega arith))) run.0
+    ∙ back ∙ ap (λ row. read row more) pels
 
 -- a row in one-dimensional coding is read back
-pub one_dimensional_back : RunBitsAreRead → (row : List Colour) → HasWidth row → (more : List Bool)
-    → IsOneDimensionalRow (length row) (one_dimensional_bits row ++ more) row more
-one_dimensional_back runs_read row limits more =
+pub one_dimensional_back : RunBitsAreRead → OneDimensionalBitsAreRead
+one_dimensional_back runs_read row more limits =
     let pels : row ≡ pels_of White (runs_of row) = sym (pels_of-runs_after White 0 row) in
     let sum_is : sum (runs_of row) ≡ length row =
     sym (length-pels_of White (runs_of row)) ∙ ap (λ (xs : List Colour). length xs) (sym pels) in
-    record {
-      runs = runs_of row;
-      coded = runs_from (length row) White 0 (one_dimensional_bits row ++ more) (runs_of row) more
-          (runs_back runs_read White (runs_of row) more (omega (arith, sum_is, limits.short))) (omega (arith, sum_is))
-          (λ k h. omega (arith, fewer_runs White 0 row (omega (arith, limits.some)) k h));
-      pels = pels;
-    }
+    runs_back runs_read (record { pels = []; colour = White }) (length row) (runs_of row) more (omega (arith, sum_is))
+    limits.short
+    (λ k h. omega (arith, fewer_runs White 0 row (omega (arith, limits.some)) k h))
+    ∙ ap (λ r. read r more) (sym pels)

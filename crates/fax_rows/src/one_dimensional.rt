@@ -1,12 +1,11 @@
 //! Rows in one-dimensional coding (ITU-T T.4, section 4.1.1).
 ghost use Rattle.std.specs.Prelude.{◌≡◌, ◌+◌, ◌-◌, ◌≤◌, ◌<◌, ◌^◌, ◌⊎◌, length};
-ghost use Rattle.std.specs.Prelude.{◌++◌, OnOk, IfOk, IfErr, IsTrue};
-ghost use Rattle.fax_bits.specs.Codes.{IsRun};
+ghost use Rattle.std.specs.Prelude.{◌++◌, OnOk, IfOk, IsTrue};
 ghost use Rattle.fax_bits.specs.Written.{run_bits};
 ghost use Rattle.fax_bits.specs.views.Source.{KeepsEnd};
 ghost use Rattle.fax_rows.specs.Coded.{one_dimensional_bits};
-ghost use Rattle.fax_rows.specs.Rows.{IsOneDimensionalRow};
-ghost use Rattle.fax_rows.specs.Faults.{IsOneDimensionalFault, IsRunFault};
+ghost use Rattle.fax_rows.specs.ReadRows.{read_run as read_run_of, read_one_dimensional};
+ghost use Rattle.fax_bits.specs.Reading.{answered};
 ghost use Rattle.fax_rows.specs.code.Turns.{row_of, TurnsAt};
 ghost use Rattle.fax_rows.specs.code.Put.{ArePut, HasRoom};
 
@@ -55,12 +54,11 @@ fn next_run(
 ) -> Result<u32, RowFault>
     requires short { width < 2 ^ 16 }
     requires within { runs.old.total ≤ width }
-    ensures run { IfOk result (λ n. IsRun colour ahead.old.left n ahead.new.left) }
+    ensures read { read_run_of colour width runs.old.total ahead.old.left
+        ≡ answered (λ n. runs.old.total + n) result ahead.new.left }
     ensures within { IfOk result (λ n. runs.old.total + n ≤ width) }
     ensures chosen { IfOk result (λ n. IsTrue runs.new.is_chosen → IsTrue runs.old.is_chosen
         × (ahead.old.left ≡ run_bits colour n ++ ahead.new.left)) }
-    ensures err { IfErr result
-        (λ fault. IsRunFault colour width runs.old.total ahead.old.left fault) }
     ensures end { runs.new.end ≡ runs.old.end }
     ensures total { runs.new.total ≡ runs.old.total }
     ensures same_end { KeepsEnd ahead.old ahead.new }
@@ -89,15 +87,13 @@ fn put_next_run(
     ensures put { OnOk result (ArePut width places.new runs.new.end runs.new.total) }
     ensures turned { OnOk result
         (TurnsAt places.old places.new runs.old.end runs.new.end runs.new.total) }
-    ensures run { OnOk result
-        (IsRun colour ahead.old.left (runs.new.total - runs.old.total) ahead.new.left) }
+    ensures read { read_run_of colour width runs.old.total ahead.old.left
+        ≡ answered (λ _. runs.new.total) result ahead.new.left }
     ensures right { OnOk result (runs.old.total ≤ runs.new.total) }
     ensures chosen { OnOk result (IsTrue runs.new.is_chosen → IsTrue runs.old.is_chosen
         × (ahead.old.left ≡ run_bits colour (runs.new.total - runs.old.total) ++ ahead.new.left)
         × ((0 < runs.new.total - runs.old.total)
         ⊎ ((runs.old.total ≡ 0) × (colour ≡ Colour.White)))) }
-    ensures err { IfErr result
-        (λ fault. IsRunFault colour width runs.old.total ahead.old.left fault) }
     ensures room { HasRoom width places.new }
     ensures same_end { KeepsEnd ahead.old ahead.new }
     ensures shorter { OnOk result (length ahead.new.left < length ahead.old.left) }
@@ -115,18 +111,17 @@ fn read_runs(source: &mut BitSource, places: &mut [u32], width: u32) -> Result<R
     requires some { 0 < width }
     requires short { width < 2 ^ 16 }
     requires room { HasRoom width places.old }
-    ensures ok { IfOk result (λ runs. IsOneDimensionalRow width source.old.left
-        (row_of places.new runs.end width) source.new.left) }
+    ensures read { read_one_dimensional width source.old.left
+        ≡ answered (λ runs. row_of places.new runs.end width) result source.new.left }
     ensures chosen { IfOk result (λ runs. IsTrue runs.is_chosen → source.old.left
         ≡ one_dimensional_bits (row_of places.new runs.end width) ++ source.new.left) }
     ensures put { IfOk result (λ runs. ArePut width places.new runs.end width) }
-    ensures err { IfErr result (λ fault. IsOneDimensionalFault width source.old.left fault) }
     ensures room { HasRoom width places.new }
     ensures same_end { KeepsEnd source.old source.new }
 {
     // One reader serves those who ask whether the codes are T.4's choice and those who do not: to
     // see it costs nothing where no run is empty.
-    crate::laws::one_dimensional_rows_are_read_as_nothing_else();
+    crate::laws::one_dimensional_rows_are_read_back();
     let mut ahead = source.again();
     let mut runs = RunsSoFar {
         end: 1,
@@ -157,10 +152,8 @@ fn read_runs(source: &mut BitSource, places: &mut [u32], width: u32) -> Result<R
 ///
 /// The fault of the first code that is no part of the row. Nothing else is said of the row then.
 pub fn read_1d(source: &mut BitSource, row: &mut Row) -> Result<(), RowFault>
-    ensures ok { OnOk result
-        (IsOneDimensionalRow (length row.old) source.old.left row.new source.new.left) }
-    ensures err { IfErr result
-        (λ fault. IsOneDimensionalFault (length row.old) source.old.left fault) }
+    ensures read { read_one_dimensional (length row.old) source.old.left
+        ≡ answered (λ _. row.new) result source.new.left }
     ensures same_width { length row.new ≡ length row.old }
 
     // The source goes on in the same bits.
@@ -178,12 +171,10 @@ pub fn read_1d(source: &mut BitSource, row: &mut Row) -> Result<(), RowFault>
 /// As for `read_1d`.
 #[inline(never)]
 pub fn read_1d_choice(source: &mut BitSource, row: &mut Row) -> Result<bool, RowFault>
-    ensures ok { OnOk result
-        (IsOneDimensionalRow (length row.old) source.old.left row.new source.new.left) }
+    ensures read { read_one_dimensional (length row.old) source.old.left
+        ≡ answered (λ _. row.new) result source.new.left }
     ensures chosen { IfOk result (λ chosen. IsTrue chosen
         → source.old.left ≡ one_dimensional_bits row.new ++ source.new.left) }
-    ensures err { IfErr result
-        (λ fault. IsOneDimensionalFault (length row.old) source.old.left fault) }
     ensures same_width { length row.new ≡ length row.old }
 
     // The source goes on in the same bits.

@@ -1,12 +1,14 @@
 //! Runs of pels of one colour, code by code (ITU-T T.4, section 4.1.1).
-ghost use Rattle.std.specs.Prelude.{◌≡◌, ◌+◌, ◌≤◌, ◌<◌, ◌^◌, ◌++◌, length, OnOk, IfOk, IfErr};
+ghost use Rattle.std.specs.Prelude.{◌≡◌, ◌+◌, ◌≤◌, ◌<◌, ◌^◌, ◌++◌, length, OnOk, IfOk};
 ghost use Rattle.std.specs.Prelude.{IsTrue};
-ghost use Rattle.fax_bits.specs.Codes.{Takes, IsFaultOf, IsRun};
+ghost use Rattle.fax_bits.specs.Codes.{IsRun};
+ghost use Rattle.fax_bits.specs.Codes.{read_code as read_code_of};
+ghost use Rattle.fax_bits.specs.Reading.{answered};
 ghost use Rattle.fax_bits.specs.Tables.{run_table};
 ghost use Rattle.fax_bits.specs.Written.{run_bits};
 ghost use Rattle.fax_bits.specs.views.Source.{KeepsEnd};
 ghost use Rattle.fax_rows.specs.Rows.{other as other_than};
-ghost use Rattle.fax_rows.specs.Faults.{IsRunFault};
+ghost use Rattle.fax_rows.specs.ReadRows.{read_run as read_run_of};
 
 use crate::RowFault;
 use fax_bits::{
@@ -26,9 +28,8 @@ pub(crate) fn other(colour: Colour) -> Colour
 /// Reads a code for a run of the colour.
 #[inline(always)]
 fn read_run_code(source: &mut BitSource, colour: Colour) -> Result<RunCode, CodeFault>
-    ensures ok { IfOk result
-        (λ code. Takes (run_table colour) source.old.left code source.new.left) }
-    ensures err { IfErr result (λ fault. IsFaultOf (run_table colour) source.old.left fault) }
+    ensures read { read_code_of (run_table colour) source.old.left
+        ≡ answered (λ code. code) result source.new.left }
     ensures same_end { KeepsEnd source.old source.new }
     ensures shorter { OnOk result (length source.new.left < length source.old.left) }
 {
@@ -58,11 +59,11 @@ fn read_run(
 ) -> Result<ReadRun, RowFault>
     requires width { width < 2 ^ 16 }
     requires from { from ≤ width }
-    ensures ok { IfOk result (λ run. IsRun colour source.old.left run.pels source.new.left) }
+    ensures read { read_run_of colour width from source.old.left
+        ≡ answered (λ run. from + run.pels) result source.new.left }
     ensures chosen { IfOk result (λ run. IsTrue run.is_chosen
         → source.old.left ≡ run_bits colour run.pels ++ source.new.left) }
     ensures within { IfOk result (λ run. from + run.pels ≤ width) }
-    ensures err { IfErr result (λ fault. IsRunFault colour width from source.old.left fault) }
     ensures same_end { KeepsEnd source.old source.new }
     ensures shorter { OnOk result (length source.new.left < length source.old.left) }
 {
@@ -103,11 +104,12 @@ pub(crate) fn last_run(
 ) -> Result<ReadRun, RowFault>
     requires width { width < 2 ^ 16 }
     requires from { from ≤ width }
+    ensures read { read_run_of colour width from source.old.left
+        ≡ answered (λ run. from + run.pels) result source.new.left }
     ensures ok { IfOk result (λ run. IsRun colour source.old.left run.pels source.new.left) }
     ensures chosen { IfOk result (λ run. IsTrue run.is_chosen
         → source.old.left ≡ run_bits colour run.pels ++ source.new.left) }
     ensures within { IfOk result (λ run. from + run.pels ≤ width) }
-    ensures err { IfErr result (λ fault. IsRunFault colour width from source.old.left fault) }
     ensures same_end { KeepsEnd source.old source.new }
     ensures shorter { OnOk result (length source.new.left < length source.old.left) }
 {

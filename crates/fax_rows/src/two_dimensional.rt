@@ -1,12 +1,12 @@
 //! Rows in two-dimensional coding (ITU-T T.4, section 4.2.1.3, and T.6, section 2.2), read into
 //! places of change over a reference row's places.
 ghost use Rattle.std.specs.Prelude.{◌≡◌, ◌+◌, ◌-◌};
-ghost use Rattle.std.specs.Prelude.{◌++◌, length, OnOk, OnErr, IfOk, IfErr, IfSome, IsTrue, None};
+ghost use Rattle.std.specs.Prelude.{◌++◌, length, OnErr, IfOk, IfErr, IfSome, IsTrue, None};
 ghost use Rattle.std.specs.Prelude.{true};
 ghost use Rattle.fax_bits.specs.views.Source.{KeepsEnd};
 ghost use Rattle.fax_rows.specs.Coded.{two_dimensional_bits};
-ghost use Rattle.fax_rows.specs.Rows as Spec;
-ghost use Rattle.fax_rows.specs.Faults as Fault;
+ghost use Rattle.fax_bits.specs.Reading.{answered, failed};
+ghost use Rattle.fax_rows.specs.ReadRows.{read_two_dimensional};
 ghost use Rattle.fax_rows.specs.code.PlacedRow.{placed_pels};
 ghost use Rattle.fax_rows.specs.code.Put.{HasRoom};
 ghost use Rattle.fax_rows.specs.code.RowStop.{IsRowStop};
@@ -91,8 +91,8 @@ fn read_places<const CHOICE: bool>(
     requires room { HasRoom reference.width places.old }
     ensures read { IfOk result (λ read. IsReadRow read.is_chosen reference.entry source.old.left
         places.new read.end source.new.left) }
-    ensures err { IfErr result (λ fault. Fault.IsTwoDimensionalFault
-        (placed_pels reference.entry) source.old.left fault) }
+    ensures err { IfErr result (λ fault. read_two_dimensional (placed_pels reference.entry)
+        source.old.left ≡ failed fault) }
     ensures room { HasRoom reference.entry.width places.new }
     ensures same_end { KeepsEnd source.old source.new }
 {
@@ -125,12 +125,10 @@ fn read_row<const CHOICE: bool>(
     row: &mut Row,
 ) -> Result<bool, RowFault>
     requires width { length reference.now ≡ length row.old }
-    ensures ok { OnOk result
-        (Spec.IsTwoDimensionalRow reference.now source.old.left row.new source.new.left) }
+    ensures read { read_two_dimensional reference.now source.old.left
+        ≡ answered (λ _. row.new) result source.new.left }
     ensures chosen { IfOk result (λ chosen. IsTrue chosen
         → source.old.left ≡ two_dimensional_bits reference.now row.new ++ source.new.left) }
-    ensures err { IfErr result
-        (λ fault. Fault.IsTwoDimensionalFault reference.now source.old.left fault) }
     ensures same_width { length row.new ≡ length row.old }
     ensures same_end { KeepsEnd source.old source.new }
 {
@@ -159,10 +157,8 @@ fn read_row<const CHOICE: bool>(
 /// then.
 pub fn read_2d(source: &mut BitSource, reference: &Row, row: &mut Row) -> Result<(), RowFault>
     requires width { length reference.now ≡ length row.old }
-    ensures ok { OnOk result
-        (Spec.IsTwoDimensionalRow reference.now source.old.left row.new source.new.left) }
-    ensures err { IfErr result
-        (λ fault. Fault.IsTwoDimensionalFault reference.now source.old.left fault) }
+    ensures read { read_two_dimensional reference.now source.old.left
+        ≡ answered (λ _. row.new) result source.new.left }
     ensures same_width { length row.new ≡ length row.old }
 
     // The source goes on in the same bits.
@@ -185,12 +181,10 @@ pub fn read_2d_choice(
     row: &mut Row,
 ) -> Result<bool, RowFault>
     requires width { length reference.now ≡ length row.old }
-    ensures ok { OnOk result
-        (Spec.IsTwoDimensionalRow reference.now source.old.left row.new source.new.left) }
+    ensures read { read_two_dimensional reference.now source.old.left
+        ≡ answered (λ _. row.new) result source.new.left }
     ensures chosen { IfOk result (λ chosen. IsTrue chosen
         → source.old.left ≡ two_dimensional_bits reference.now row.new ++ source.new.left) }
-    ensures err { IfErr result
-        (λ fault. Fault.IsTwoDimensionalFault reference.now source.old.left fault) }
     ensures same_width { length row.new ≡ length row.old }
 
     // The source goes on in the same bits.

@@ -3,7 +3,8 @@
 ghost use Rattle.std.specs.Prelude.{◌≡◌, ◌++◌, length, false, IsTrue};
 ghost use Rattle.fax_bits.specs.views.Source.{KeepsEnd};
 ghost use Rattle.fax_rows.specs.Coded.{one_dimensional_bits, two_dimensional_bits};
-ghost use Rattle.fax_rows.specs.Rows as Spec;
+ghost use Rattle.fax_bits.specs.Reading.{read};
+ghost use Rattle.fax_rows.specs.ReadRows.{read_one_dimensional, read_two_dimensional};
 
 use crate::pels::Row;
 use fax_bits::{BitSource, Colour};
@@ -16,8 +17,8 @@ const LONG_RUN: u32 = 2560;
 /// stays. It takes no memory.
 #[inline(always)]
 pub fn take_white_1d(source: &mut BitSource, white: &Row) -> bool
-    ensures row { IsTrue result → Spec.IsOneDimensionalRow (length white.now)
-        source.old.left white.now source.new.left }
+    ensures row { IsTrue result → read_one_dimensional (length white.now) source.old.left
+        ≡ read white.now source.new.left }
     ensures chosen { IsTrue result
         → source.old.left ≡ one_dimensional_bits white.now ++ source.new.left }
     ensures unchanged { result ≡ false → source.new.left ≡ source.old.left }
@@ -40,8 +41,8 @@ pub fn take_white_1d(source: &mut BitSource, white: &Row) -> bool
 /// source stays. It takes no memory.
 #[inline(always)]
 pub fn take_white_2d(source: &mut BitSource, reference: &Row) -> bool
-    ensures row { IsTrue result → Spec.IsTwoDimensionalRow reference.now
-        source.old.left reference.now source.new.left }
+    ensures row { IsTrue result → read_two_dimensional reference.now source.old.left
+        ≡ read reference.now source.new.left }
     ensures chosen { IsTrue result
         → source.old.left ≡ two_dimensional_bits reference.now reference.now ++ source.new.left }
     ensures unchanged { result ≡ false → source.new.left ≡ source.old.left }

@@ -2,6 +2,9 @@
 use Rattle.std.proofs.lemmas.Grind.{common_steps}
 use Rattle.std.proofs.Common.{subst, ◌≡◌, ℕ, zero, suc, ◌+◌, ◌<◌, ◌⊎◌, inl, inr, List, [], ◌∷◌, ◌++◌, length}
 use Rattle.std.proofs.Common.{Option, Some, None, Ok, Err, refl, sym, ap, ◌∙◌, arith, append-nil}
+use Rattle.std.proofs.Common.{◌/◌, ◌%◌, drop}
+use Rattle.fax_bits.specs.Bits.{bits}
+use Rattle.fax_files.specs.Page.{strip_form}
 use Rattle.std.proofs.lemmas.List.{drop_at, length-replicate, take_at}
 use Rattle.fax_bits.specs.declared.Colour.{Colour}
 use Rattle.fax_bits.specs.declared.Colour.TheVariants.{White}
@@ -73,8 +76,10 @@ module _ (by_place : AreBitsByPlace) (lines_read : LinesAreRead) (file : List �
     by_found inner wide None (ends_as end) is row = grind (arith, stops)
     by_found inner wide (Some bytes) (ends_as end) (fault, stop, end_is) row = grind (arith, stops)
     by_found inner wide (Some bytes) (goes_on item to) is row =
-        let item_is = (lines_read _ _ (before form.width inner).reference).width _ (exchanged form item.pels) _ wide
-        is.3 in
+        let all = bits form.order bytes in
+        let strip = strip_form form (r / form.rows_per_strip) in
+        let item_is = (lines_read strip (r % form.rows_per_strip) (before form.width inner).reference).width
+        (drop (before form.width inner).bits all) (exchanged form item.pels) (drop item.bits all) wide is.3 in
         let rest : Rows (r + 1) to = rw is.4 (after item is.0 is.1 is.5 item_is) in
         record {
           own = item ∷ rest.own;

@@ -80,8 +80,8 @@ pub(crate) fn within<M: Copy>(entry: CodeEntry<M>, n: u32) -> Option<(u32, M)> {
 ///
 /// `DataEnds` where the bits end within a code, `BadCode` where no code begins so. The source is
 /// then as it was.
-// ensures ok { IfOk result (λ meaning. Takes T.table source.old.left meaning source.new.left) }
-// ensures err { IfErr result (λ fault. IsFaultOf T.table source.old.left fault) }
+// ensures read { read_code_of T.table source.old.left
+//     ≡ answered (λ meaning. meaning) result source.new.left }
 // ensures unchanged { OnErr result (source.new ≡ source.old) }
 // The source goes on in the same bits, and a code takes at least one of them.
 // ensures same_end { KeepsEnd source.old source.new }
@@ -106,8 +106,7 @@ pub fn read_code<T: CodeTable>(source: &mut BitSource) -> Result<T::Meaning, Cod
 /// they may end within a code.
 #[inline(never)]
 // requires fits { window < 2 ^ n }
-// requires none { HasNoCode T.table (code_bits n window) }
-// ensures { IsFaultOf T.table (code_bits n window) result }
+// ensures { result ≡ code_fault T.table (code_bits n window) }
 fn fault_at_end<T: CodeTable>(window: u32, n: u32) -> CodeFault {
     for i in 0..T::COUNT {
         let entry = T::entry(i);

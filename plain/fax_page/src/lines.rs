@@ -55,9 +55,8 @@ fn read_tag(source: &mut BitSource) -> Result<Dimension, StripFault> {
 /// MH, an EOL and a tag bit in MR, nothing in MMR (T.4, sections 4.1.2 and 4.2.2; T.6, section
 /// 2.2.1).
 #[inline(always)]
-// ensures ok { IfOk result (λ dimension.
-//     Lines.read_start coding i source.old.left ≡ Ok (dimension, source.new.left)) }
-// ensures err { IfErr result (λ fault. Lines.read_start coding i source.old.left ≡ Err fault) }
+// ensures read { Lines.read_start coding i source.old.left
+//     ≡ answered (λ dimension. dimension) result source.new.left }
 // ensures same_end { KeepsEnd source.old source.new }
 pub(crate) fn read_start(
     source: &mut BitSource,
@@ -109,8 +108,9 @@ pub(crate) fn stop(codes: &BitSource, cause: RowFault) -> StripFault {
 /// Goes past the codes of a row that is white as its reference row is, where they are seen to be
 /// next and T.4's choice, and answers whether they are. Else the source stays.
 #[inline(always)]
-// ensures row { IsTrue result → Lines.IsRowIn dimension (length reference.now) reference.now
-//     source.old.left reference.now source.new.left }
+// ensures row { IsTrue result
+//     → Lines.read_codes dimension (length reference.now) reference.now source.old.left
+//     ≡ read reference.now source.new.left }
 // ensures chosen { IsTrue result
 //     → IsChosen dimension reference.now source.old.left reference.now source.new.left }
 // ensures unchanged { result ≡ false → source.new.left ≡ source.old.left }
@@ -125,10 +125,8 @@ pub(crate) fn take_white(source: &mut BitSource, dimension: Dimension, reference
 /// Reads the codes of a row that is coded so into `row`, of which nothing is said after a fault.
 #[inline(always)]
 // requires same_width { length reference.now ≡ length row.old }
-// ensures ok { OnOk result (Lines.IsRowIn dimension (length row.old) reference.now
-//     source.old.left row.new source.new.left) }
-// ensures err { IfErr result
-//     (Lines.IsRowFaultIn dimension (length row.old) reference.now source.old.left) }
+// ensures read { Lines.read_codes dimension (length row.old) reference.now source.old.left
+//     ≡ answered (λ _. row.new) result source.new.left }
 // ensures same_width { length row.new ≡ length row.old }
 // ensures same_end { KeepsEnd source.old source.new }
 pub(crate) fn read_codes(

@@ -68,12 +68,10 @@ impl From<Memory> for NotesFault {
 /// Reads the codes of a row that is coded so into `row`, of which nothing is said after a fault,
 /// and answers whether they are seen to be those that T.4 chooses.
 // requires same_width { length reference.now ≡ length row.old }
-// ensures ok { OnOk result (IsRowIn dimension (length row.old) reference.now
-//     source.old.left row.new source.new.left) }
+// ensures read { read_codes_of dimension (length row.old) reference.now source.old.left
+//     ≡ answered (λ _. row.new) result source.new.left }
 // ensures chosen { IfOk result (λ chosen. IsTrue chosen
 //     → Code.IsChosen dimension reference.now source.old.left row.new source.new.left) }
-// ensures err { IfErr result
-//     (IsRowFaultIn dimension (length row.old) reference.now source.old.left) }
 // ensures same_width { length row.new ≡ length row.old }
 fn read_seen(
     source: &mut BitSource,
@@ -143,8 +141,9 @@ impl<'a> NotedStrip<'a> {
     /// Reads the codes of row `i`, which are due, into `row`, of which nothing is said after a
     /// fault, and asks nothing of them.
     // requires { Code.IsNoting self.old rows.old }
-    // ensures ok { OnOk result (IsRowIn dimension self.old.form.width rows.old.reference
-    //     self.old.source.left rows.new.row self.new.source.left) }
+    // ensures ok { OnOk result
+    //     (read_codes_of dimension self.old.form.width rows.old.reference self.old.source.left
+    //     ≡ read rows.new.row self.new.source.left) }
     // ensures err { IfErr result (Code.IsCodesFault self.old.form i dimension
     //     rows.old.reference self.old.source.left) }
     // ensures same_width { length rows.new.row ≡ length rows.old.row }

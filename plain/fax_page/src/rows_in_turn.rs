@@ -92,10 +92,8 @@ impl RowsInTurn {
     /// Reads the codes of a row that is coded so, which is the reference then. Where it cannot be
     /// read, the reference stays.
     #[inline(always)]
-    // ensures ok { OnOk result (IsRowIn dimension (length self.old) self.old
-    //     source.old.left self.new source.new.left) }
-    // ensures err { IfErr result
-    //     (IsRowFaultIn dimension (length self.old) self.old source.old.left) }
+    // ensures read { read_codes_of dimension (length self.old) self.old source.old.left
+    //     ≡ answered (λ _. self.new) result source.new.left }
     // ensures kept { OnErr result (self.new ≡ self.old) }
     // ensures same_width { length self.new ≡ length self.old }
     // ensures same_end { KeepsEnd source.old source.new }

@@ -17,9 +17,8 @@ pub(crate) fn other(colour: Colour) -> Colour {
 
 /// Reads a code for a run of the colour.
 #[inline(always)]
-// ensures ok { IfOk result
-//     (λ code. Takes (run_table colour) source.old.left code source.new.left) }
-// ensures err { IfErr result (λ fault. IsFaultOf (run_table colour) source.old.left fault) }
+// ensures read { read_code_of (run_table colour) source.old.left
+//     ≡ answered (λ code. code) result source.new.left }
 // ensures same_end { KeepsEnd source.old source.new }
 // ensures shorter { OnOk result (length source.new.left < length source.old.left) }
 fn read_run_code(source: &mut BitSource, colour: Colour) -> Result<RunCode, CodeFault> {
@@ -43,11 +42,11 @@ pub(crate) struct ReadRun {
 #[inline(never)]
 // requires width { width < 2 ^ 16 }
 // requires from { from ≤ width }
-// ensures ok { IfOk result (λ run. IsRun colour source.old.left run.pels source.new.left) }
+// ensures read { read_run_of colour width from source.old.left
+//     ≡ answered (λ run. from + run.pels) result source.new.left }
 // ensures chosen { IfOk result (λ run. IsTrue run.is_chosen
 //     → source.old.left ≡ run_bits colour run.pels ++ source.new.left) }
 // ensures within { IfOk result (λ run. from + run.pels ≤ width) }
-// ensures err { IfErr result (λ fault. IsRunFault colour width from source.old.left fault) }
 // ensures same_end { KeepsEnd source.old source.new }
 // ensures shorter { OnOk result (length source.new.left < length source.old.left) }
 fn read_run(
@@ -86,11 +85,12 @@ fn read_run(
 #[inline(always)]
 // requires width { width < 2 ^ 16 }
 // requires from { from ≤ width }
+// ensures read { read_run_of colour width from source.old.left
+//     ≡ answered (λ run. from + run.pels) result source.new.left }
 // ensures ok { IfOk result (λ run. IsRun colour source.old.left run.pels source.new.left) }
 // ensures chosen { IfOk result (λ run. IsTrue run.is_chosen
 //     → source.old.left ≡ run_bits colour run.pels ++ source.new.left) }
 // ensures within { IfOk result (λ run. from + run.pels ≤ width) }
-// ensures err { IfErr result (λ fault. IsRunFault colour width from source.old.left fault) }
 // ensures same_end { KeepsEnd source.old source.new }
 // ensures shorter { OnOk result (length source.new.left < length source.old.left) }
 pub(crate) fn last_run(

@@ -75,8 +75,8 @@ fn read_modes<const CHOICE: bool>(
 // requires room { HasRoom reference.width places.old }
 // ensures read { IfOk result (λ read. IsReadRow read.is_chosen reference.entry source.old.left
 //     places.new read.end source.new.left) }
-// ensures err { IfErr result (λ fault. Fault.IsTwoDimensionalFault
-//     (placed_pels reference.entry) source.old.left fault) }
+// ensures err { IfErr result (λ fault. read_two_dimensional (placed_pels reference.entry)
+//     source.old.left ≡ failed fault) }
 // ensures room { HasRoom reference.entry.width places.new }
 // ensures same_end { KeepsEnd source.old source.new }
 fn read_places<const CHOICE: bool>(
@@ -108,12 +108,10 @@ fn read_places<const CHOICE: bool>(
 /// Reads a row, and answers whether its codes are seen to be those that T.4 chooses.
 #[inline(always)]
 // requires width { length reference.now ≡ length row.old }
-// ensures ok { OnOk result
-//     (Spec.IsTwoDimensionalRow reference.now source.old.left row.new source.new.left) }
+// ensures read { read_two_dimensional reference.now source.old.left
+//     ≡ answered (λ _. row.new) result source.new.left }
 // ensures chosen { IfOk result (λ chosen. IsTrue chosen
 //     → source.old.left ≡ two_dimensional_bits reference.now row.new ++ source.new.left) }
-// ensures err { IfErr result
-//     (λ fault. Fault.IsTwoDimensionalFault reference.now source.old.left fault) }
 // ensures same_width { length row.new ≡ length row.old }
 // ensures same_end { KeepsEnd source.old source.new }
 fn read_row<const CHOICE: bool>(
@@ -145,10 +143,8 @@ fn read_row<const CHOICE: bool>(
 /// The fault of the first mode or run that is no part of the row. Nothing else is said of the row
 /// then.
 // requires width { length reference.now ≡ length row.old }
-// ensures ok { OnOk result
-//     (Spec.IsTwoDimensionalRow reference.now source.old.left row.new source.new.left) }
-// ensures err { IfErr result
-//     (λ fault. Fault.IsTwoDimensionalFault reference.now source.old.left fault) }
+// ensures read { read_two_dimensional reference.now source.old.left
+//     ≡ answered (λ _. row.new) result source.new.left }
 // ensures same_width { length row.new ≡ length row.old }
 // The source goes on in the same bits.
 // ensures same_end { KeepsEnd source.old source.new }
@@ -165,12 +161,10 @@ pub fn read_2d(source: &mut BitSource, reference: &Row, row: &mut Row) -> Result
 ///
 /// As for `read_2d`.
 // requires width { length reference.now ≡ length row.old }
-// ensures ok { OnOk result
-//     (Spec.IsTwoDimensionalRow reference.now source.old.left row.new source.new.left) }
+// ensures read { read_two_dimensional reference.now source.old.left
+//     ≡ answered (λ _. row.new) result source.new.left }
 // ensures chosen { IfOk result (λ chosen. IsTrue chosen
 //     → source.old.left ≡ two_dimensional_bits reference.now row.new ++ source.new.left) }
-// ensures err { IfErr result
-//     (λ fault. Fault.IsTwoDimensionalFault reference.now source.old.left fault) }
 // ensures same_width { length row.new ≡ length row.old }
 // The source goes on in the same bits.
 // ensures same_end { KeepsEnd source.old source.new }

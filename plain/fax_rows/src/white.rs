@@ -14,8 +14,8 @@ const LONG_RUN: u32 = 2560;
 /// and T.4's choice, and answers whether they are seen to be (T.4, section 4.1.1). Else the source
 /// stays. It takes no memory.
 #[inline(always)]
-// ensures row { IsTrue result → Spec.IsOneDimensionalRow (length white.now)
-//     source.old.left white.now source.new.left }
+// ensures row { IsTrue result → read_one_dimensional (length white.now) source.old.left
+//     ≡ read white.now source.new.left }
 // ensures chosen { IsTrue result
 //     → source.old.left ≡ one_dimensional_bits white.now ++ source.new.left }
 // ensures unchanged { result ≡ false → source.new.left ≡ source.old.left }
@@ -35,8 +35,8 @@ pub fn take_white_1d(source: &mut BitSource, white: &Row) -> bool {
 /// is next, and answers whether that is seen (T.4, section 4.2.1.3.3; T.6, section 2.2.4). Else the
 /// source stays. It takes no memory.
 #[inline(always)]
-// ensures row { IsTrue result → Spec.IsTwoDimensionalRow reference.now
-//     source.old.left reference.now source.new.left }
+// ensures row { IsTrue result → read_two_dimensional reference.now source.old.left
+//     ≡ read reference.now source.new.left }
 // ensures chosen { IsTrue result
 //     → source.old.left ≡ two_dimensional_bits reference.now reference.now ++ source.new.left }
 // ensures unchanged { result ≡ false → source.new.left ≡ source.old.left }

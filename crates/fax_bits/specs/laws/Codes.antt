@@ -15,7 +15,9 @@ use Rattle.fax_bits.specs.declared.run_codes.RunCode.TheVariants.{Terminating, M
 use Rattle.fax_bits.specs.Bits.{byte_bits, bits}
 use Rattle.fax_bits.specs.Written.{run_bits, mode_bits}
 use Rattle.fax_bits.specs.Bits.{bits_number, packed}
-use Rattle.fax_bits.specs.Codes.{Takes, IsFaultOf, IsRun}
+use Rattle.fax_bits.specs.Codes.{Takes, IsRun, read_code}
+use Rattle.fax_bits.specs.Reading.{read}
+use Rattle.std.specs.Prelude.{◌↔◌}
 use Rattle.fax_bits.specs.views.Codes.{IsWritten}
 use Rattle.fax_bits.specs.Tables.{run_table, modes}
 
@@ -94,10 +96,12 @@ pub record IsOne {A E : Type 0} (holds : List A → E → Type 0) : Type 0 where
   pub is : holds items end
   pub one : (others : List A) (other : E) → holds others other → (others ≡ items) × (other ≡ end)
 
--- bits are read by a table in one way, and each code takes bits (T.4, tables 2, 3a, 3b and 4)
+-- the code of a table that is read is any that begins the bits, wherever it stands in the table,
+-- and each code takes bits (T.4, tables 2, 3a, 3b and 4)
 pub record ReadsOneWay {M : Type 0} (table : List (CodeEntry M)) : Type 0 where
   pub takes_bits : TakesBits table
-  pub code : IsReadInOneWay (Takes table) (IsFaultOf table)
+  pub code : (b : List Bool) (meaning : M) (rest : List Bool)
+      → Takes table b meaning rest ↔ (read_code table b ≡ read meaning rest)
 
 -- the codes of runs of a colour are read in one way, and bits begin with at most one run of it
 -- (T.4, section 4.1.1, and tables 2, 3a and 3b)

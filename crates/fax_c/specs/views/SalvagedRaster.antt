@@ -1,11 +1,13 @@
 -- What is left of a damaged page or strip, told.
-use Rattle.std.specs.Prelude.{◌≡◌, ℕ, ◌*◌, ◌<◌, ◌≤◌, ◌⊎◌, Bool, List, ◌++◌, length, take, drop}
+use Rattle.std.specs.Prelude.{◌≡◌, ℕ, ◌-◌, ◌*◌, ◌<◌, ◌≤◌, ◌⊎◌, Bool, List, ◌++◌, length, take, drop}
 use Rattle.std.specs.Prelude.{flat_map, Ok, Err}
 use Rattle.fax_bits.specs.Bits.{bits}
 use Rattle.fax_rows.specs.Coded.{packed_len}
 use Rattle.fax_page.specs.declared.StripForm.{StripForm}
 use Rattle.fax_page.specs.declared.RowsEnd.{RowsEnd}
+use Rattle.fax_page.specs.declared.RowsEnd.TheVariants.{Fault}
 use Rattle.fax_page.specs.Uncounted.{uncounted}
+use Rattle.fax_walk.specs.declared.cursor.Cursor.{Cursor}
 use Rattle.fax_walk.specs.declared.end.End.{End}
 use Rattle.fax_walk.specs.Pages.{FilePage, read_page}
 use Rattle.fax_walk.specs.Salvaged.{PageRow}
@@ -15,6 +17,7 @@ use Rattle.fax_c.specs.declared.filled.Stop.{Stop}
 use Rattle.fax_c.specs.declared.filled.Stop.TheVariants.{Done, Ended, Memory, NoRoom}
 use Rattle.fax_c.specs.declared.forms.FaxForm.{FaxForm}
 use Rattle.fax_c.specs.declared.salvaged_raster.FaxLost.{FaxLost}
+use Rattle.fax_c.specs.declared.places.FaxPlace.{FaxPlace}
 use Rattle.fax_c.specs.declared.told.FaxTold.{FaxTold}
 use Rattle.fax_c.specs.Forms.{form_numbers}
 use Rattle.fax_c.specs.SalvagedRaster.{left_row, lost_among}
@@ -77,12 +80,18 @@ TellsSalvaged file page stride old_form form old new told status =
     ⊎ ((end : End) × (read_page file (record { page = page; row = 0 }) ≡ Err end)
     × (filled ≡ none_filled page (Ended end)) × (form ≡ old_form) × (new ≡ old)))
 
+-- where a strip of unknown height ends that is salvaged up to a cursor: at its last row, which is
+-- lost, where no EOL is left after it, and else after the last one
+abbrev pub end_place : Cursor → RowsEnd → FaxPlace
+end_place cursor (Fault fault) = place_at (record cursor { row = cursor.row - 1 })
+end_place cursor end = place_at cursor
+
 -- what was written of rows that nobody counted is told, with how they end, where all stretches have
 -- room
 abbrev pub IsLeftTold : Filled → RowsEnd → FaxTold → ℕ → Type 0
 IsLeftTold filled end told status =
     ((filled.stop ≡ NoRoom) × IsTold filled told status)
-    ⊎ ((filled.stop ≡ Done) × IsRowsEndTold filled (place_at filled.cursor) end told status)
+    ⊎ ((filled.stop ≡ Done) × IsRowsEndTold filled (end_place filled.cursor end) end told status)
 
 -- what is left of rows that nobody counted is written, and how they end is told; or it has no room,
 -- and how many rows it is is told; or memory was refused; then nothing is written

@@ -20,7 +20,8 @@ use Rattle.fax_page.specs.Uncounted.{EndsSo}
 use Rattle.fax_page.specs.declared.Dimension.{Dimension}
 use Rattle.fax_page.specs.views.Strip.{IsStripForm}
 use Rattle.fax_rows.specs.declared.RowFault.{RowFault}
-use Rattle.fax_page.specs.Lines.{IsLine, IsRowIn, IsRowFaultIn, IsCause, white_row}
+use Rattle.fax_bits.specs.Reading.{read, failed}
+use Rattle.fax_page.specs.Lines.{IsLine, IsCause, read_codes, read_start, white_row}
 use Rattle.fax_page.specs.code.Starts.{IsStop}
 use Rattle.fax_page.specs.Strip.{row_bits}
 use Rattle.fax_page.specs.Strip.{AreLines}
@@ -44,7 +45,7 @@ pub record IsNoting (strip : NotedStrip) (rows : NotedRows) : Type 0 where
 -- the codes of a row were read, and whether they are those that T.4 chooses
 pub record AreCodesRead (form : StripForm) (dimension : Dimension) (reference : List Colour)
     (b : List Bool) (row : List Colour) (rest : List Bool) (chosen : Bool) : Type 0 where
-  pub coded : IsRowIn dimension form.width reference b row rest
+  pub coded : read_codes dimension form.width reference b ≡ read row rest
   pub choice : IsTrue chosen ↔ IsChosen dimension reference b row rest
 
 -- whether the codes of a row, or those of a row before it, are others than T.4 chooses, where they
@@ -59,21 +60,24 @@ pub record IsChoiceNoted (chosen : Type 0) (other : Bool) (now : Bool) : Type 0 
 pub record AreCodesNoted (form : StripForm) (dimension : Dimension) (reference : List Colour)
     (b : List Bool) (row : List Colour) (rest : List Bool) (other : Bool) (now : Bool)
     : Type 0 where
-  pub coded : IsRowIn dimension form.width reference b row rest
+  pub coded : read_codes dimension form.width reference b ≡ read row rest
   pub noted : IsChoiceNoted (IsChosen dimension reference b row rest) other now
 
 -- row i was read, and whether its codes, or those of a row before it, are others than T.4 chooses
 pub record IsLineNoted (form : StripForm) (i : ℕ) (reference : List Colour) (b : List Bool)
     (row : List Colour) (rest : List Bool) (other : Bool) (now : Bool) : Type 0 where
   pub line : IsLine form i reference b row rest
-  pub noted : IsChoiceNoted (IsChosen line.dimension reference line.codes row rest) other now
+  pub dimension : Dimension
+  pub codes : List Bool
+  pub start : read_start form.coding i b ≡ read dimension codes
+  pub noted : IsChoiceNoted (IsChosen dimension reference codes row rest) other now
 
 -- the codes of row i cannot be read. Of want of memory nothing is said
 abbrev pub IsCodesFault : StripForm → ℕ → Dimension → List Colour → List Bool → NotesFault → Type 0
 IsCodesFault form i dimension reference b Memory = ⊤
 IsCodesFault form i dimension reference b (Strip row fault) =
-    (row ≡ i) × (cause : RowFault) × IsRowFaultIn dimension form.width reference b cause
-    × IsStop b cause fault
+    (row ≡ i) × (cause : RowFault)
+    × (read_codes dimension form.width reference b ≡ failed cause) × IsStop b cause fault
 
 -- row i cannot be read. Of want of memory nothing is said
 abbrev pub IsLineFault : StripForm → ℕ → List Colour → List Bool → NotesFault → Type 0

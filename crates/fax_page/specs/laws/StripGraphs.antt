@@ -2,29 +2,27 @@
 -- of the module `laws` prove it.
 use Rattle.std.specs.Prelude.{◌≡◌, ℕ, ◌↔◌, Bool, List, Option}
 use Rattle.fax_bits.specs.declared.Colour.{Colour}
-use Rattle.fax_rows.specs.laws.Graphs.{IsGraph}
 use Rattle.fax_page.specs.declared.Coding.{Coding}
 use Rattle.fax_page.specs.declared.RowsEnd.{RowsEnd}
 use Rattle.fax_page.specs.declared.StripFault.{StripFault}
 use Rattle.fax_page.specs.declared.StripForm.{StripForm}
-use Rattle.fax_page.specs.Lines.{IsLine, IsCause, white_row}
+use Rattle.fax_page.specs.Lines.{white_row}
 use Rattle.fax_page.specs.Strip.{AreLines}
 use Rattle.fax_page.specs.Uncounted.{EndsSo}
-use Rattle.fax_page.specs.reads.Lines.{read_line, read_strip}
+use Rattle.fax_page.specs.reads.Lines.{read_strip}
 use Rattle.fax_page.specs.LeftUncounted.{IsLeftUncounted}
 use Rattle.fax_page.specs.Salvage.{IsSalvagedStrip, SalvagedRow}
 use Rattle.fax_page.specs.reads.Salvage.{salvage_rows_and_end}
 use Rattle.fax_page.specs.reads.Salvage.{salvage_strip}
 use Rattle.fax_page.specs.reads.Uncounted.{rows_end}
 
--- a row of a strip, and all its rows
-pub record StripsAreReadByFunctions : Type 0 where
-  pub line : (form : StripForm) (i : ℕ) (reference : List Colour)
-      → IsGraph (IsLine form i reference) (IsCause form i reference) (read_line form i reference)
-  pub strip : (form : StripForm) (b : List Bool) (rows : List (List Colour))
-      (end : Option StripFault) (left : List Bool)
-      → AreLines form 0 (white_row form.width) b rows end left
-      ↔ (read_strip form b ≡ record { rows = rows; end = end; left = left })
+-- all rows of a strip
+abbrev pub StripsAreReadByFunctions : Type 0
+StripsAreReadByFunctions =
+    (form : StripForm) (b : List Bool) (rows : List (List Colour)) (end : Option StripFault)
+    (left : List Bool)
+    → AreLines form 0 (white_row form.width) b rows end left
+    ↔ (read_strip form b ≡ record { rows = rows; end = end; left = left })
 
 -- how rows end that nobody counted
 abbrev pub EndsAreToldByAFunction : Type 0

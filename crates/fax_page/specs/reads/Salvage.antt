@@ -1,7 +1,7 @@
 -- What is left of a damaged strip, and of damaged rows that nobody counted, read by functions (T.4,
 -- sections 4.1.2 and 4.2.2; T.6, section 2.2.1; the rest is this project's profile).
 use Rattle.std.specs.Prelude.{ℕ, zero, suc, ◌+◌, nat_lt, ◌&&◌, if◌then◌else◌, Bool, true, false}
-use Rattle.std.specs.Prelude.{List, [], ◌∷◌, replicate, Option, Some, None, Result, Ok, Err}
+use Rattle.std.specs.Prelude.{List, [], ◌∷◌, replicate, Option, Some, None}
 use Rattle.fax_bits.specs.declared.Colour.{Colour}
 use Rattle.fax_page.specs.declared.Coding.{Coding}
 use Rattle.fax_page.specs.declared.Coding.TheVariants.{Mh, Mr, Mmr}
@@ -12,28 +12,27 @@ use Rattle.fax_page.specs.declared.RowsEnd.TheVariants.{Fault, TooMany}
 use Rattle.fax_page.specs.declared.StripFault.{StripFault}
 use Rattle.fax_page.specs.declared.StripFault.TheVariants.{MissingEol}
 use Rattle.fax_page.specs.declared.StripForm.{StripForm}
-use Rattle.fax_page.specs.Lines.{NextOne, in_code, next_one, read_start, white_row}
+use Rattle.fax_bits.specs.Reading.{Read, read, failed}
+use Rattle.fax_page.specs.Lines.{NextOne, in_code, next_one, read_line, read_start, white_row}
 use Rattle.fax_page.specs.Salvage.{SalvagedRow, found, lost, next_due, sought_from, unended}
-use Rattle.fax_page.specs.reads.Lines.{read_line}
 use Rattle.fax_page.specs.reads.Uncounted.{rows_end}
 
 -- why a row is lost that is coded over one that is: for the cause of that one
-abbrev pub cause_over : Option StripFault → Result (Dimension × List Bool) StripFault
-    → Option StripFault
+abbrev pub cause_over : Option StripFault → Read Dimension StripFault → Option StripFault
 cause_over None start = None
-cause_over (Some fault) (Err stop) = None
-cause_over (Some fault) (Ok (OneDimensional, codes)) = None
-cause_over (Some fault) (Ok (TwoDimensional, codes)) = Some fault
+cause_over (Some fault) (failed stop) = None
+cause_over (Some fault) (read OneDimensional codes) = None
+cause_over (Some fault) (read TwoDimensional codes) = Some fault
 
 -- what is read, where there is no such cause
-abbrev pub unless : Option StripFault → Result (List Colour × List Bool) StripFault
-    → Result (List Colour × List Bool) StripFault
+abbrev pub unless : Option StripFault → Read (List Colour) StripFault
+    → Read (List Colour) StripFault
 unless None line = line
-unless (Some fault) line = Err fault
+unless (Some fault) line = failed fault
 
 -- row i of a strip, after one that is lost for a cause, or over its reference
 abbrev pub read_over : StripForm → ℕ → Option StripFault → List Colour → List Bool
-    → Result (List Colour × List Bool) StripFault
+    → Read (List Colour) StripFault
 read_over form i before reference b =
     unless (cause_over before (read_start form.coding i b)) (read_line form i reference b)
 
@@ -71,11 +70,11 @@ after_lost n form i b more fault =
 -- what becomes of row i, which is read so, and of the n rows after it
 abbrev pub row_and_more : ℕ → StripForm → ℕ → List Bool
     → (Option StripFault → List Colour → List Bool → List SalvagedRow)
-    → Result (List Colour × List Bool) StripFault → List SalvagedRow
-row_and_more n form i b more (Err fault) = lost fault ∷ after_lost n form i b more fault
-row_and_more n form i b more (Ok line) =
-    if lacks_eol form i line.1 then unended line.0 ∷ after_lost n form i b more MissingEol
-    else found line.0 ∷ more None line.0 line.1
+    → Read (List Colour) StripFault → List SalvagedRow
+row_and_more n form i b more (failed fault) = lost fault ∷ after_lost n form i b more fault
+row_and_more n form i b more (read row rest) =
+    if lacks_eol form i rest then unended row ∷ after_lost n form i b more MissingEol
+    else found row ∷ more None row rest
 
 -- what becomes of n rows from row i on
 abbrev pub salvage_rows : ℕ → StripForm → ℕ → Option StripFault → List Colour → List Bool
@@ -115,13 +114,13 @@ uncounted_after_lost n form i b more fault =
 -- what becomes of row i, which is read so, and of those after it
 abbrev pub uncounted_row : ℕ → StripForm → ℕ → List Bool
     → (Option StripFault → List Colour → List Bool → RowsAndEnd)
-    → Result (List Colour × List Bool) StripFault → RowsAndEnd
-uncounted_row n form i b more (Err fault) =
+    → Read (List Colour) StripFault → RowsAndEnd
+uncounted_row n form i b more (failed fault) =
     before_rows (lost fault) (uncounted_after_lost n form i b more fault)
-uncounted_row n form i b more (Ok line) =
-    if lacks_eol form i line.1
-    then before_rows (unended line.0) (uncounted_after_lost n form i b more MissingEol)
-    else before_rows (found line.0) (more None line.0 line.1)
+uncounted_row n form i b more (read row rest) =
+    if lacks_eol form i rest
+    then before_rows (unended row) (uncounted_after_lost n form i b more MissingEol)
+    else before_rows (found row) (more None row rest)
 
 -- the rows end so before one that is due, or it is read, where they do not
 abbrev pub end_or_row : RowsEnd → RowsAndEnd → RowsAndEnd

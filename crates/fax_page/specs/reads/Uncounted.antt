@@ -8,7 +8,7 @@ use Rattle.fax_page.specs.declared.RowsEnd.{RowsEnd}
 use Rattle.fax_page.specs.declared.RowsEnd.TheVariants.{Marked, DataEnd, Fault, TooMany}
 use Rattle.fax_page.specs.declared.StripFault.{StripFault}
 use Rattle.fax_page.specs.Strip.{end_bits}
-use Rattle.fax_rows.specs.reads.CodeReading.{after_front}
+use Rattle.fax_bits.specs.Codes.{after_front}
 use Rattle.fax_page.specs.Lines.{NextOne, ends_line, next_one, not_there}
 
 -- the bits after an EOL of a return to control, by the next 1: in MR a tag bit of 1 follows it

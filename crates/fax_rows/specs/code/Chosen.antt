@@ -1,11 +1,12 @@
 -- Steps that are read, and whether T.4 would have chosen them.
+use Rattle.fax_rows.specs.ReadRows.{read_steps}
 use Rattle.std.specs.Prelude.{◌≡◌, ℕ, ◌+◌, ◌<◌, ◌≤◌, ◌⊎◌, Bool, true, List, [], ◌∷◌, ◌++◌}
 use Rattle.std.specs.Prelude.{length, take}
 use Rattle.std.specs.Prelude.{replicate, Some}
 use Rattle.fax_bits.specs.declared.Colour.{Colour}
 use Rattle.fax_bits.specs.Codes.{IsRun}
 use Rattle.fax_bits.specs.Written.{run_bits}
-use Rattle.fax_rows.specs.Rows.{other, pel, is_right_of, Position, first_pel, AreSteps}
+use Rattle.fax_rows.specs.Rows.{other, pel, is_right_of, Position, first_pel}
 use Rattle.fax_rows.specs.code.Seen.{b1_from, b2_from}
 use Rattle.fax_rows.specs.code.ChangesAhead.{bits_from, place_from}
 
@@ -27,11 +28,13 @@ IsChosenStep reference old b new rest =
     (row : List Colour) → length row ≡ length reference → GoesOnFrom row new
     → IsStepOf reference row old b new rest
 
--- the bits begin with steps through some positions (T.4, section 4.2.1.3.4)
+-- the bits begin with others, after which the row is read on from the new position (T.4, section
+-- 4.2.1.3.4)
 pub record GoesOn (reference : List Colour) (old : Position) (b : List Bool) (new : Position)
     (rest : List Bool) : Type 0 where
-  pub positions : List Position
-  pub steps : AreSteps reference old b positions new rest
+  pub front : List Bool
+  pub parts : b ≡ front ++ rest
+  pub reads : read_steps reference old b ≡ read_steps reference new rest
 
 -- the bits begin with steps that T.4 chooses, through these positions, each from before the end
 abbrev pub AreChosenSteps : List Colour → Position → List Bool → List Position → Position

@@ -3,7 +3,8 @@ use Rattle.std.specs.Prelude.{◌≡◌, ℕ, ◌+◌, ◌-◌, ◌≤◌, ◌<�
 use Rattle.std.specs.Prelude.{slice_index}
 use Rattle.fax_bits.specs.declared.Colour.TheVariants.{Black}
 use Rattle.fax_rows.specs.declared.two_dimensional.steps.PlacedReached.{PlacedReached}
-use Rattle.fax_rows.specs.Rows.{Position, IsHorizontalStep, beginning}
+use Rattle.fax_rows.specs.Rows.{Position, beginning}
+use Rattle.fax_rows.specs.code.CodingSteps.{IsHorizontalStep}
 use Rattle.fax_rows.specs.code.Reached.{reached_pel, position_of}
 use Rattle.fax_rows.specs.declared.placed_rows.PlacedRow.{PlacedRow}
 use Rattle.fax_rows.specs.code.Chosen.{GoesOn, GoesOnAsChosen, IsChosenPair}

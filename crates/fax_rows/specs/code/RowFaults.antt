@@ -7,14 +7,7 @@ use Rattle.fax_bits.specs.Tables.{run_table}
 use Rattle.fax_bits.specs.Codes.{IsRun, Takes}
 use Rattle.fax_rows.specs.declared.RowFault.{RowFault}
 use Rattle.fax_rows.specs.Rows.{Position, first_pel, other}
-use Rattle.fax_rows.specs.Faults.{IsCodeFault, IsRunCodeFault, IsRunFault}
-
--- the fault stands at the first run code of the bits
-abbrev pub IsAtRunCode : Colour → ℕ → ℕ → List Bool → RowFault → Type 0
-IsAtRunCode colour width so_far b fault =
-    IsCodeFault (run_table colour) b fault
-    ⊎ ((code : RunCode) × (after : List Bool) × Takes (run_table colour) b code after
-    × IsRunCodeFault width so_far code fault)
+use Rattle.fax_rows.specs.code.CodingSteps.{IsRunFault}
 
 -- a fault in a run from the pel `from` on, or after a first run within the row in the run of the
 -- other colour after it

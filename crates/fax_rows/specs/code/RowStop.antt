@@ -1,5 +1,7 @@
 -- Why a row in two-dimensional coding is not read on.
-use Rattle.std.specs.Prelude.{ℕ, Bool, List, IsTrue}
+use Rattle.std.specs.Prelude.{◌≡◌, ℕ, Bool, List, IsTrue}
+use Rattle.fax_bits.specs.Reading.{failed}
+use Rattle.fax_rows.specs.ReadRows.{read_two_dimensional}
 use Rattle.fax_rows.specs.declared.RowFault.{RowFault}
 use Rattle.fax_rows.specs.declared.placed_rows.PlacedRow.{PlacedRow}
 use Rattle.fax_rows.specs.declared.two_dimensional.horizontal_runs.RowStop.{RowStop}
@@ -7,7 +9,7 @@ use Rattle.fax_rows.specs.declared.two_dimensional.horizontal_runs.RowStop.TheVa
 use Rattle.fax_rows.specs.declared.two_dimensional.horizontal_runs.Unread.{Unread}
 use Rattle.fax_rows.specs.declared.two_dimensional.horizontal_runs.Unread.TheVariants as Unreads
 use Rattle.fax_rows.specs.declared.two_dimensional.steps.PlacedReached.{PlacedReached}
-use Rattle.fax_rows.specs.Faults.{IsStepFault, IsTwoDimensionalFault}
+use Rattle.fax_rows.specs.code.CodingSteps.{IsStepFault}
 use Rattle.fax_rows.specs.code.PlacedReached.{placed_position}
 use Rattle.fax_rows.specs.code.PlacedRow.{placed_pels}
 
@@ -30,4 +32,4 @@ IsStepStop choice reference places at b stop =
 -- a fault of the row that the bits begin with
 abbrev pub IsRowStop : Bool → PlacedRow → List Bool → RowStop → Type 0
 IsRowStop choice reference b stop =
-    IsStopOf choice (λ fault. IsTwoDimensionalFault (placed_pels reference) b fault) stop
+    IsStopOf choice (λ fault. read_two_dimensional (placed_pels reference) b ≡ failed fault) stop

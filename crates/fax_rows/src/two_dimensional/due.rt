@@ -2,15 +2,18 @@
 //! section 4.2.1.3.2).
 ghost use Rattle.std.specs.Prelude.{◌≡◌, ◌<◌, Bool, List, [], length};
 ghost use Rattle.std.specs.Prelude.{OnOk, OnErr, IfOk, IfErr, IfSome, ◌+◌, ◌≤◌};
-ghost use Rattle.fax_bits.specs.Codes.{Takes, IsFaultOf};
+ghost use Rattle.fax_bits.specs.Codes.{Takes};
+ghost use Rattle.fax_bits.specs.Codes.{read_code as read_code_of};
+ghost use Rattle.fax_bits.specs.Reading.{answered};
 ghost use Rattle.fax_bits.specs.Tables.{modes};
 ghost use Rattle.fax_bits.specs.declared.Colour.TheVariants.{Black};
 ghost use Rattle.fax_bits.specs.views.Source.{KeepsEnd};
 ghost use Rattle.fax_rows.specs.Rows as Spec;
-ghost use Rattle.fax_rows.specs.Faults as Fault;
+ghost use Rattle.fax_rows.specs.code.CodingSteps as Step;
 ghost use Rattle.fax_rows.specs.code.Due.{AreRunsDue, IsDue, IsDueWithin};
 ghost use Rattle.fax_rows.specs.code.Pause.{IsPause};
-ghost use Rattle.fax_rows.specs.code.PlacedReached.{placed_position, IsReadInside, IsReadOn, IsPairReadOn};
+ghost use Rattle.fax_rows.specs.code.PlacedReached.{placed_position, IsReadInside, IsReadOn};
+ghost use Rattle.fax_rows.specs.code.PlacedReached.{IsPairReadOn};
 ghost use Rattle.fax_rows.specs.code.PlacedRow.{placed_pels};
 ghost use Rattle.fax_rows.specs.code.Put.{HasRoom};
 ghost use Rattle.fax_rows.specs.code.RowFaults.{IsHorizontalFault};
@@ -67,8 +70,9 @@ impl Pause {
 
 /// Reads a mode by a look-up, or else by its table.
 fn last_mode(source: &mut BitSource) -> Result<ModeCode, CodeFault>
+    ensures read { read_code_of modes source.old.left
+        ≡ answered (λ mode. mode) result source.new.left }
     ensures ok { IfOk result (λ mode. Takes modes source.old.left mode source.new.left) }
-    ensures err { IfErr result (λ fault. IsFaultOf modes source.old.left fault) }
     ensures same_end { KeepsEnd source.old source.new }
     ensures shorter { OnOk result (length source.new.left < length source.old.left) }
 {

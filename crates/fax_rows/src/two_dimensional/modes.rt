@@ -6,7 +6,7 @@ ghost use Rattle.fax_bits.specs.Codes.{Takes};
 ghost use Rattle.fax_bits.specs.Tables.{modes};
 ghost use Rattle.fax_bits.specs.views.Source.{KeepsEnd};
 ghost use Rattle.fax_rows.specs.Rows as Spec;
-ghost use Rattle.fax_rows.specs.Faults as Fault;
+ghost use Rattle.fax_rows.specs.code.CodingSteps as Step;
 ghost use Rattle.fax_bits.specs.declared.mode_codes.ModeCode.TheVariants.{Vertical};
 ghost use Rattle.fax_rows.specs.declared.RowFault.TheVariants.{OutOfRow};
 ghost use Rattle.fax_rows.specs.declared.two_dimensional.horizontal_runs.Due.TheVariants.{Runs};
@@ -18,7 +18,8 @@ ghost use Rattle.fax_rows.specs.code.RowStop.{IsStopOf, IsStepStop, IsRowStop, I
 ghost use Rattle.fax_rows.specs.code.ReadRow.{IsReadRow};
 ghost use Rattle.fax_rows.specs.code.Put.{HasRoom};
 ghost use Rattle.fax_rows.specs.code.Reached.{reached_pel};
-ghost use Rattle.fax_rows.specs.code.PlacedReached.{placed_position, IsReadTo, IsReadInside, IsReadOn, IsPairReadOn};
+ghost use Rattle.fax_rows.specs.code.PlacedReached.{placed_position, IsReadTo, IsReadInside};
+ghost use Rattle.fax_rows.specs.code.PlacedReached.{IsReadOn, IsPairReadOn};
 
 use super::choices::{chooses_a1, chooses_b2, chooses_runs, is_taken};
 use super::copied::under_several;
@@ -100,7 +101,7 @@ fn vertical<const CHOICE: bool>(
         → IfOk result (λ next. IsReadOn CHOICE reference.entry places.old places.new at next
         b source.new.left) }
     ensures err { IfErr result (λ stop. IsStopOf CHOICE
-        (λ fault. (Spec.IsInRow (placed_pels reference.entry)
+        (λ fault. (Step.IsInRow (placed_pels reference.entry)
         (placed_position reference.entry.width places.old at) d → ⊥) × (fault ≡ OutOfRow)) stop) }
     ensures room { OnErr result (HasRoom reference.entry.width places.new) }
     ensures same_end { KeepsEnd source.old source.new }

@@ -1,6 +1,7 @@
 //! Rows in two-dimensional coding over a white reference row: horizontal modes from the first pel
 //! on, and a1 under the row's end (ITU-T T.4, section 4.2.1.3.3).
-ghost use Rattle.std.specs.Prelude.{◌≡◌, ◌+◌, ◌≤◌, ◌<◌, ◌^◌, Bool, List, [], None, true, IsSome, IsTrue, length};
+ghost use Rattle.std.specs.Prelude.{◌≡◌, ◌+◌, ◌≤◌, ◌<◌, ◌^◌, Bool, List, [], None, true, IsSome};
+ghost use Rattle.std.specs.Prelude.{IsTrue, length};
 ghost use Rattle.std.specs.Prelude.{IfOk, IfErr, IfSome, OnErr};
 ghost use Rattle.fax_bits.specs.views.Source.{KeepsEnd};
 ghost use Rattle.fax_bits.specs.declared.Colour.TheVariants.{White};

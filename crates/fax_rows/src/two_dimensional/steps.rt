@@ -6,6 +6,7 @@ ghost use Rattle.std.specs.Prelude.{IsTrue};
 ghost use Rattle.fax_bits.specs.Codes.{IsRun};
 ghost use Rattle.fax_rows.specs.Rows.{other as other_than};
 ghost use Rattle.fax_rows.specs.Rows as Spec;
+ghost use Rattle.fax_rows.specs.code.CodingSteps as Step;
 ghost use Rattle.fax_rows.specs.code.Seen.{b2_from};
 ghost use Rattle.fax_rows.specs.code.Chosen.{after_pair};
 ghost use Rattle.fax_rows.specs.code.PlacedRow.{placed_pels, IsB1At};
@@ -137,7 +138,7 @@ fn turned_at(
     requires b1 { a1 < reference.width
         → IsB1At reference (Some a1) (other_than at.reached.colour) b1 }
     ensures step { (d : ℤ) → pos a1 ≡ pos (slice_index reference.entry.places.now at.b1) +ℤ d
-        → Spec.IsVerticalStep (placed_pels reference.entry)
+        → Step.IsVerticalStep (placed_pels reference.entry)
         (placed_position reference.entry.width places.old at) d
         (placed_position reference.entry.width places.new result) }
     ensures so_far { IsReadTo reference.entry places.new result }
@@ -159,7 +160,7 @@ fn turned_at(
 #[inline(always)]
 pub(crate) fn under_b1(reference: PlacedRow, places: &mut [u32], at: PlacedReached) -> PlacedReached
     requires inside { IsReadInside reference places.old at }
-    ensures step { Spec.IsVerticalStep (placed_pels reference.entry)
+    ensures step { Step.IsVerticalStep (placed_pels reference.entry)
         (placed_position reference.entry.width places.old at) (pos 0)
         (placed_position reference.entry.width places.new result) }
     ensures so_far { IsReadTo reference.entry places.new result }
@@ -178,11 +179,11 @@ pub(crate) fn right_of_b1(
 ) -> Option<PlacedReached>
     requires inside { IsReadInside reference places.old at }
     requires right { pos 0 ≤ℤ d }
-    ensures step { IfSome result (λ next. Spec.IsVerticalStep (placed_pels reference.entry)
+    ensures step { IfSome result (λ next. Step.IsVerticalStep (placed_pels reference.entry)
         (placed_position reference.entry.width places.old at) d
         (placed_position reference.entry.width places.new next)) }
     ensures so_far { IfSome result (λ next. IsReadTo reference.entry places.new next) }
-    ensures out { IfNone result (Spec.IsInRow (placed_pels reference.entry)
+    ensures out { IfNone result (Step.IsInRow (placed_pels reference.entry)
         (placed_position reference.entry.width places.old at) d → ⊥) }
     ensures room { HasRoom reference.entry.width places.new }
 {
@@ -205,11 +206,11 @@ pub(crate) fn left_of_b1(
 ) -> Option<PlacedReached>
     requires inside { IsReadInside reference places.old at }
     requires left { d ≤ℤ negsuc 0 }
-    ensures step { IfSome result (λ next. Spec.IsVerticalStep (placed_pels reference.entry)
+    ensures step { IfSome result (λ next. Step.IsVerticalStep (placed_pels reference.entry)
         (placed_position reference.entry.width places.old at) d
         (placed_position reference.entry.width places.new next)) }
     ensures so_far { IfSome result (λ next. IsReadTo reference.entry places.new next) }
-    ensures out { IfNone result (Spec.IsInRow (placed_pels reference.entry)
+    ensures out { IfNone result (Step.IsInRow (placed_pels reference.entry)
         (placed_position reference.entry.width places.old at) d → ⊥) }
     ensures room { HasRoom reference.entry.width places.new }
 {
@@ -232,7 +233,7 @@ pub(crate) fn after_runs(
     requires within { reached_pel at.reached + first + second ≤ reference.width }
     ensures step { (b middle rest : List Bool) → IsRun at.reached.colour b first middle
         → IsRun (other_than at.reached.colour) middle second rest
-        → Spec.IsHorizontalStep (placed_pels reference.entry)
+        → Step.IsHorizontalStep (placed_pels reference.entry)
         (placed_position reference.entry.width places.old at) b
         (placed_position reference.entry.width places.new result) rest }
     ensures placed { placed_position reference.entry.width places.new result

@@ -48,8 +48,9 @@ impl Pause {
 }
 
 /// Reads a mode by a look-up, or else by its table.
+// ensures read { read_code_of modes source.old.left
+//     ≡ answered (λ mode. mode) result source.new.left }
 // ensures ok { IfOk result (λ mode. Takes modes source.old.left mode source.new.left) }
-// ensures err { IfErr result (λ fault. IsFaultOf modes source.old.left fault) }
 // ensures same_end { KeepsEnd source.old source.new }
 // ensures shorter { OnOk result (length source.new.left < length source.old.left) }
 fn last_mode(source: &mut BitSource) -> Result<ModeCode, CodeFault> {

@@ -73,7 +73,7 @@ fn horizontal<const CHOICE: bool, const SEVERAL: bool>(
 //     → IfOk result (λ next. IsReadOn CHOICE reference.entry places.old places.new at next
 //     b source.new.left) }
 // ensures err { IfErr result (λ stop. IsStopOf CHOICE
-//     (λ fault. (Spec.IsInRow (placed_pels reference.entry)
+//     (λ fault. (Step.IsInRow (placed_pels reference.entry)
 //     (placed_position reference.entry.width places.old at) d → ⊥) × (fault ≡ OutOfRow)) stop) }
 // ensures room { OnErr result (HasRoom reference.entry.width places.new) }
 // ensures same_end { KeepsEnd source.old source.new }

@@ -114,7 +114,7 @@ pub(crate) fn under_b2(reference: PlacedRow, _places: &[u32], at: PlacedReached)
 // requires b1 { a1 < reference.width
 //     → IsB1At reference (Some a1) (other_than at.reached.colour) b1 }
 // ensures step { (d : ℤ) → pos a1 ≡ pos (slice_index reference.entry.places.now at.b1) +ℤ d
-//     → Spec.IsVerticalStep (placed_pels reference.entry)
+//     → Step.IsVerticalStep (placed_pels reference.entry)
 //     (placed_position reference.entry.width places.old at) d
 //     (placed_position reference.entry.width places.new result) }
 // ensures so_far { IsReadTo reference.entry places.new result }
@@ -141,7 +141,7 @@ fn turned_at(
 /// section 4.2.1.3.2). The next b1 is the reference row's next changing element.
 #[inline(always)]
 // requires inside { IsReadInside reference places.old at }
-// ensures step { Spec.IsVerticalStep (placed_pels reference.entry)
+// ensures step { Step.IsVerticalStep (placed_pels reference.entry)
 //     (placed_position reference.entry.width places.old at) (pos 0)
 //     (placed_position reference.entry.width places.new result) }
 // ensures so_far { IsReadTo reference.entry places.new result }
@@ -154,11 +154,11 @@ pub(crate) fn under_b1(reference: PlacedRow, places: &mut [u32], at: PlacedReach
 #[inline(always)]
 // requires inside { IsReadInside reference places.old at }
 // requires right { pos 0 ≤ℤ d }
-// ensures step { IfSome result (λ next. Spec.IsVerticalStep (placed_pels reference.entry)
+// ensures step { IfSome result (λ next. Step.IsVerticalStep (placed_pels reference.entry)
 //     (placed_position reference.entry.width places.old at) d
 //     (placed_position reference.entry.width places.new next)) }
 // ensures so_far { IfSome result (λ next. IsReadTo reference.entry places.new next) }
-// ensures out { IfNone result (Spec.IsInRow (placed_pels reference.entry)
+// ensures out { IfNone result (Step.IsInRow (placed_pels reference.entry)
 //     (placed_position reference.entry.width places.old at) d → ⊥) }
 // ensures room { HasRoom reference.entry.width places.new }
 pub(crate) fn right_of_b1(
@@ -180,11 +180,11 @@ pub(crate) fn right_of_b1(
 #[inline(always)]
 // requires inside { IsReadInside reference places.old at }
 // requires left { d ≤ℤ negsuc 0 }
-// ensures step { IfSome result (λ next. Spec.IsVerticalStep (placed_pels reference.entry)
+// ensures step { IfSome result (λ next. Step.IsVerticalStep (placed_pels reference.entry)
 //     (placed_position reference.entry.width places.old at) d
 //     (placed_position reference.entry.width places.new next)) }
 // ensures so_far { IfSome result (λ next. IsReadTo reference.entry places.new next) }
-// ensures out { IfNone result (Spec.IsInRow (placed_pels reference.entry)
+// ensures out { IfNone result (Step.IsInRow (placed_pels reference.entry)
 //     (placed_position reference.entry.width places.old at) d → ⊥) }
 // ensures room { HasRoom reference.entry.width places.new }
 pub(crate) fn left_of_b1(
@@ -205,7 +205,7 @@ pub(crate) fn left_of_b1(
 // requires within { reached_pel at.reached + first + second ≤ reference.width }
 // ensures step { (b middle rest : List Bool) → IsRun at.reached.colour b first middle
 //     → IsRun (other_than at.reached.colour) middle second rest
-//     → Spec.IsHorizontalStep (placed_pels reference.entry)
+//     → Step.IsHorizontalStep (placed_pels reference.entry)
 //     (placed_position reference.entry.width places.old at) b
 //     (placed_position reference.entry.width places.new result) rest }
 // ensures placed { placed_position reference.entry.width places.new result

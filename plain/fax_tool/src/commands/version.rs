@@ -6,7 +6,7 @@ use crate::streams::Sink;
 use crate::streams::transfer::{Interruptions, give_all};
 
 /// The program's name and the version, which is that of the file `VERSION`.
-const VERSION_TEXT: &str = "faxpages 1.10.2\n";
+const VERSION_TEXT: &str = "faxpages 1.11.0\n";
 
 /// Writes the version.
 // requires { W.counts out.old ≡ no_faults }

@@ -1,4 +1,4 @@
-use Rattle.fax_bits.proofs.PrefixLemmas.{reads_one_way}
+use Rattle.fax_bits.proofs.CodeLemmas.{reads_one_way}
 use Rattle.fax_bits.proofs.laws.codes_are_read_in_one_way.Goals as goal
 
 pub returns : goal.returns

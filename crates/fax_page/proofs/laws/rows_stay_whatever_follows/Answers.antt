@@ -3,5 +3,5 @@ use Rattle.fax_page.proofs.laws.rows_stay_whatever_follows.Goals as goal
 
 pub returns : goal.returns
 returns c =
-    stays_whatever_follows c.strips_are_read_by_functions.ensures c.run_codes_are_read_in_one_way.ensures
+    stays_whatever_follows c.run_codes_are_read_in_one_way.ensures
     c.codes_are_read_in_one_way.ensures

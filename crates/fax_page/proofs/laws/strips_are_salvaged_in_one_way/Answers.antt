@@ -2,4 +2,4 @@ use Rattle.fax_page.proofs.SalvageLaws.{strips_are_salvaged}
 use Rattle.fax_page.proofs.laws.strips_are_salvaged_in_one_way.Goals as goal
 
 pub returns : goal.returns
-returns c = strips_are_salvaged c.strips_are_read_by_functions.ensures
+returns c = strips_are_salvaged

@@ -3,11 +3,8 @@ use Rattle.std.proofs.lemmas.Result.{err_from_is_err_and}
 use Rattle.fax_bits.specs.declared.Colour.TheVariants.{White, Black}
 use Rattle.fax_bits.specs.views.Source.{Source}
 use Rattle.fax_rows.proofs.ChosenRunLemmas.{runs_end}
-use Rattle.fax_rows.proofs.PairReadLemmas.{none_read, read_on, pair_read_on, white_read}
+use Rattle.fax_rows.proofs.PairReadLemmas.{none_read, read_on, pair_read_on, white_read, row_done, row_stops}
 use Rattle.fax_rows.proofs.PlacedReadLemmas.{more_room, put_on}
-use Rattle.fax_rows.proofs.RowLemmas.{row_done}
-use Rattle.fax_rows.proofs.RowStopLemmas.{row_stops}
-use Rattle.fax_rows.proofs.TurnLemmas.{length-pels_by}
 use Rattle.fax_rows.proofs.one_dimensional.read_runs.Goals as goal
 
 pub loop-runs-init : goal.loop-runs-init
@@ -40,23 +37,23 @@ loop-runs-preserved-in-Some c =
       same_end = omega (arith, c.in-Some.ensures.same_end, so_far.same_end);
     }
 
-pub returns-in_err-put_next_run-clause-err : goal.returns-in_err-put_next_run-clause-err
-returns-in_err-put_next_run-clause-err c =
+pub returns-in_err-put_next_run-clause-read : goal.returns-in_err-put_next_run-clause-read
+returns-in_err-put_next_run-clause-read c =
     let so_far = c.loop-runs.invariant in
     let read = white_read so_far.read (so_far.white c.loop-runs-test.true) (c.in_default.ensures.unchanged refl) in
     let left = c.from_residual in
     let p = err_from_is_err_and left.result left.ensures.1 in
-    rw (p.1, p.2) (row_stops read c.loop-runs-test.true c.in_err-put_next_run.ensures.err)
+    rw (p.1, p.2) (row_stops read c.loop-runs-test.true c.in_err-put_next_run.ensures.read)
 
-pub returns-in_err-put_next_run-2-clause-err : goal.returns-in_err-put_next_run-2-clause-err
-returns-in_err-put_next_run-2-clause-err c =
+pub returns-in_err-put_next_run-2-clause-read : goal.returns-in_err-put_next_run-2-clause-read
+returns-in_err-put_next_run-2-clause-read c =
     let so_far = c.loop-runs.invariant in
     let first = c.in_ok-put_next_run.ensures in
     let white = white_read so_far.read (so_far.white c.loop-runs-test.true) (c.in_default.ensures.unchanged refl) in
-    let read = read_on white c.loop-runs-test.true first.run first.right first.put.within first.turned first.chosen in
+    let read = read_on white c.loop-runs-test.true first.read first.right first.put.within first.turned first.chosen in
     let left = c.from_residual-in_err-put_next_run-2 in
     let p = err_from_is_err_and left.result left.ensures.1 in
-    rw (p.1, p.2) (row_stops read c.if-runs-width.true c.in_err-put_next_run-2.ensures.err)
+    rw (p.1, p.2) (row_stops read c.if-runs-width.true c.in_err-put_next_run-2.ensures.read)
 
 pub loop-runs-preserved-in-Continue-branch-2 : goal.loop-runs-preserved-in-Continue-branch-2
 loop-runs-preserved-in-Continue-branch-2 c =
@@ -65,10 +62,10 @@ loop-runs-preserved-in-Continue-branch-2 c =
     let second = c.in_ok-put_next_run-2.ensures in
     let same = c.in_default.ensures.unchanged refl in
     let white = white_read so_far.read (so_far.white c.loop-runs-test.true) same in
-    let read = read_on white c.loop-runs-test.true first.run first.right first.put.within first.turned first.chosen in
+    let read = read_on white c.loop-runs-test.true first.read first.right first.put.within first.turned first.chosen in
     record {
       colour = White;
-      read = read_on read c.if-runs-width.true second.run second.right second.put.within second.turned second.chosen;
+      read = read_on read c.if-runs-width.true second.read second.right second.put.within second.turned second.chosen;
       white = λ h. refl;
       same_end = omega (
         arith,
@@ -87,27 +84,24 @@ loop-runs-preserved c =
     let same = c.in_default.ensures.unchanged refl in
     record {
       colour = Black;
-      read = read_on (white_read so_far.read (so_far.white c.loop-runs-test.true) same) c.loop-runs-test.true first.run
-          first.right
+      read = read_on (white_read so_far.read (so_far.white c.loop-runs-test.true) same) c.loop-runs-test.true first.read
+        first.right
           first.put.within first.turned first.chosen;
       white = λ h. absurd (omega arith);
       same_end = omega (arith, first.same_end, so_far.same_end, ap (λ (s : Source). s.place + length s.left) same);
     }
 
-pub returns-clause-ok : goal.returns-clause-ok
-returns-clause-ok c =
+pub returns-clause-read : goal.returns-clause-read
+returns-clause-read c =
     rw c.go_to.ensures
-    (row_done c.loop-runs.invariant.read.so_far
-    (let within = c.loop-runs.invariant.read.put.within in omega arith)
-    (length-pels_by c.args.width _))
+    (row_done c.loop-runs.invariant.read (let within = c.loop-runs.invariant.read.put.within in omega arith))
 
 pub returns-clause-chosen : goal.returns-clause-chosen
 returns-clause-chosen c is =
-    let done : c.loop-runs.runs.total ≡ c.args.width = let within = c.loop-runs.invariant.read.put.within in
-    omega arith in
+    let read = c.loop-runs.invariant.read in
+    let done : c.loop-runs.runs.total ≡ c.args.width = let within = read.put.within in omega arith in
     rw c.go_to.ensures
-    (runs_end c.one_dimensional_rows_are_read_as_nothing_else.ensures c.args.width c.args.source.now.left
+    (runs_end c.one_dimensional_rows_are_read_back.ensures c.args.width c.args.source.now.left
     c.loop-runs.runs.total
-    c.loop-runs.invariant.colour _ c.loop-runs.ahead.left (c.loop-runs.invariant.read.written is) done c.requires.some
-    c.requires.short
-    (row_done c.loop-runs.invariant.read.so_far done (length-pels_by c.args.width _)))
+    c.loop-runs.invariant.colour _ c.loop-runs.ahead.left (read.written is) done c.requires.some
+    c.requires.short (row_done read done))

@@ -1,11 +1,13 @@
 use Rattle.std.proofs.Common.{◌≡◌, ◌+◌, ◌≤◌, length}
 use Rattle.std.specs.Prelude.{IsTrue}
-use Rattle.fax_rows.proofs.RunLemmas.{IsPartialRun, AreChosen, AreLongestMakeUp}
+use Rattle.fax_rows.specs.ReadRows.{read_run}
+use Rattle.fax_rows.proofs.RunLemmas.{AreChosen, AreLongestMakeUp}
 use Rattle.fax_rows.proofs.runs.read_run.Given as goal
 
 abbrev pub invariant-loop-more : goal.invariant-loop-more
 invariant-loop-more l = record {
-  part : IsPartialRun l.colour l.initial.source.left l.pels l.source.left;
+  same : read_run l.colour l.width l.from l.initial.source.left
+      ≡ read_run l.colour l.width (l.from + l.pels) l.source.left;
   chosen : IsTrue l.is_chosen → AreChosen l.colour l.initial.source.left l.pels l.source.left;
   longest : IsTrue l.are_longest → AreLongestMakeUp l.colour l.initial.source.left l.pels l.source.left;
   within : l.from + l.pels ≤ l.width;

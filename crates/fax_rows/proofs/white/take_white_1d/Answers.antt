@@ -1,5 +1,5 @@
-use Rattle.std.proofs.Common.{length, sym, subst, arith}
-use Rattle.fax_rows.specs.Rows.{IsOneDimensionalRow}
+use Rattle.std.proofs.Common.{length, ap, ◌∙◌, arith}
+use Rattle.fax_rows.specs.ReadRows.{read_one_dimensional}
 use Rattle.fax_rows.proofs.PlacedRowLemmas.{width_is}
 use Rattle.fax_rows.proofs.WhiteRowLemmas.{chosen_1d}
 use Rattle.fax_rows.proofs.white.take_white_1d.Goals as goal
@@ -16,4 +16,4 @@ returns-clause-row c is =
       some = omega (arith, same, c.white.invariant.some);
       short = omega (arith, same, c.white.invariant.short);
     }) in
-    subst (λ b. IsOneDimensionalRow (length row) b row rest) (sym (returns-clause-chosen c is)) read
+    ap (read_one_dimensional (length row)) (returns-clause-chosen c is) ∙ read

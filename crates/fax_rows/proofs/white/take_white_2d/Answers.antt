@@ -1,5 +1,5 @@
-use Rattle.std.proofs.Common.{refl, sym, subst, arith}
-use Rattle.fax_rows.specs.Rows.{IsTwoDimensionalRow}
+use Rattle.std.proofs.Common.{refl, ap, ◌∙◌, arith}
+use Rattle.fax_rows.specs.ReadRows.{read_two_dimensional}
 use Rattle.fax_rows.proofs.PlacedRowLemmas.{width_is}
 use Rattle.fax_rows.proofs.WhiteRowLemmas.{chosen_2d}
 use Rattle.fax_rows.proofs.white.take_white_2d.Goals as goal
@@ -16,4 +16,4 @@ returns-clause-row c is =
       some = omega (arith, same, c.reference.invariant.some);
       short = omega (arith, same, c.reference.invariant.short);
     }) refl in
-    subst (λ b. IsTwoDimensionalRow row b row rest) (sym (returns-clause-chosen c is)) read
+    ap (read_two_dimensional row) (returns-clause-chosen c is) ∙ read

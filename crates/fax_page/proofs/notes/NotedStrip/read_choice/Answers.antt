@@ -1,10 +1,10 @@
-use Rattle.std.proofs.Common.{◌≡◌, ◌++◌, ◌↔◌, length, IsTrue, refl, subst, ◌∙◌, ap, arith, rules}
+use Rattle.std.proofs.Common.{◌≡◌, ◌++◌, ◌↔◌, length, IsTrue, refl, subst, ◌∙◌, ap, sym, arith, rules}
 use Prim.{search}
 use Rattle.fax_bits.specs.views.Sink.{Sink}
 use Rattle.fax_bits.specs.views.Source.{Source}
 use Rattle.fax_bits.specs.Bits.{BeginsWith}
 use Rattle.fax_rows.specs.laws.Rows.{HasWidth}
-use Rattle.fax_page.specs.Lines.{IsRowIn, IsRowFaultIn}
+use Rattle.fax_page.specs.Lines.{read_codes}
 use Rattle.fax_page.specs.Strip.{row_bits}
 use Rattle.fax_page.proofs.NotesLemmas.{codes_read}
 use Rattle.fax_page.proofs.notes.NotedStrip.read_choice.Goals as goal
@@ -29,10 +29,10 @@ returns-clause-ok c =
     let begins : IsTrue c.begins.result ↔ BeginsWith codes c.put_codes.new.sink.bits =
     subst (λ (s : Source). IsTrue c.begins.result ↔ BeginsWith s.left c.put_codes.new.sink.bits) c.again-codes.ensures
     c.begins.ensures in
-    let coded = subst (λ n. IsRowIn dimension n reference codes row c.read_seen.new.source.left)
-    c.requires.widths.row_width c.in-Ok-false.ensures.ok in
-    codes_read c.one_dimensional_rows_are_read_as_nothing_else.ensures
-    c.two_dimensional_rows_are_read_as_nothing_else.ensures
+    let coded = ap (λ n. read_codes dimension n reference codes) (sym c.requires.widths.row_width)
+    ∙ c.in-Ok-false.ensures.read in
+    codes_read c.one_dimensional_rows_are_read_back.ensures
+    c.two_dimensional_rows_are_read_back.ensures
     form reference row codes _ _ dimension _ fits width c.requires.widths.reference_width coded put begins
 
 pub returns-in-Ok-true-clause-ok : goal.returns-in-Ok-true-clause-ok
@@ -41,8 +41,8 @@ returns-in-Ok-true-clause-ok c =
     let reference = c.args.rows.now.reference in
     let codes = c.args.self.now.source.left in
     record {
-      coded = subst (λ n. IsRowIn dimension n reference codes c.read_seen.new.row c.read_seen.new.source.left)
-          c.requires.widths.row_width c.in-Ok-true.ensures.ok;
+      coded = ap (λ n. read_codes dimension n reference codes) (sym c.requires.widths.row_width)
+          ∙ c.in-Ok-true.ensures.read;
       choice = (λ _. c.in-Ok-true.ensures.chosen (search rules), λ _. refl);
     }
 
@@ -51,7 +51,8 @@ returns-in-Err-clause-err c =
     let cause = c.in-Err.cause in (
       refl,
       cause,
-      subst (λ n. IsRowFaultIn c.args.dimension n c.args.rows.now.reference c.args.self.now.source.left cause)
-          c.requires.widths.row_width c.in-Err.ensures.err,
+      ap (λ n. read_codes c.args.dimension n c.args.rows.now.reference c.args.self.now.source.left)
+          (sym c.requires.widths.row_width)
+          ∙ c.in-Err.ensures.read,
       rw c.again-codes.ensures at c.stop-fault.ensures,
     )

@@ -1,5 +1,5 @@
-use Rattle.std.proofs.Common.{refl, subst}
-use Rattle.fax_page.specs.Lines.{IsRowIn}
+use Rattle.std.proofs.Common.{refl, ap, sym, ◌∙◌}
+use Rattle.fax_page.specs.Lines.{read_codes}
 use Rattle.fax_page.proofs.NotesLemmas.{line_noted, codes_fault, codes_seen}
 use Rattle.std.proofs.lemmas.Result.{on_ok_weaker, IfErr-weaker}
 use Rattle.fax_page.proofs.notes.NotedStrip.read_row.Goals as goal
@@ -12,10 +12,10 @@ returns-then-take_white-clause-ok c =
     let codes = c.read_start.new.source.left in
     let rest = c.take_white.new.source.left in
     line_noted form c.args.i row row c.args.self.now.source.left codes rest dimension _ _ c.requires.limits.some_pels
-    c.in-Ok.ensures.ok
+    c.in-Ok.ensures.read
     (record {
-      coded = subst (λ n. IsRowIn dimension n row codes row rest) c.requires.widths.reference_width
-          (c.if-take_white.ensures.row refl);
+      coded = ap (λ n. read_codes dimension n row codes) (sym c.requires.widths.reference_width)
+          ∙ c.if-take_white.ensures.row refl;
       noted = codes_seen _ _ (c.if-take_white.ensures.chosen refl);
     })
 
@@ -26,7 +26,7 @@ returns-clause-ok c =
     let b = c.args.self.now.source.left in
     on_ok_weaker c.note_codes.result
     (λ read. line_noted form c.args.i reference c.note_codes.new.rows.reference b c.read_start.new.source.left
-    c.note_codes.new.self.source.left c.in-Ok.dimension _ _ c.requires.limits.some_pels c.in-Ok.ensures.ok read)
+    c.note_codes.new.self.source.left c.in-Ok.dimension _ _ c.requires.limits.some_pels c.in-Ok.ensures.read read)
     (rw (c.if-take_white.ensures.unchanged refl) at c.note_codes.ensures.ok)
 
 pub returns-clause-err : goal.returns-clause-err
@@ -35,5 +35,5 @@ returns-clause-err c =
     IfErr-weaker c.note_codes.result _ _
     (λ fault is. codes_fault form c.args.i c.args.rows.now.reference c.args.self.now.source.left
     c.read_start.new.source.left
-    c.in-Ok.dimension fault c.in-Ok.ensures.ok is)
+    c.in-Ok.dimension fault c.in-Ok.ensures.read is)
     (rw (c.if-take_white.ensures.unchanged refl) at c.note_codes.ensures.err)

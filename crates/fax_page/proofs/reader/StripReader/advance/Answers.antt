@@ -13,11 +13,13 @@ invariant_of-self c =
       begun_before = search rules;
       within = search rules;
       placed =
-          placed_after _ _ _ _ _ _ _ _ _ count c.self.invariant.placed (c.self.invariant.at_row c.in_default.is)
+          placed_after c.self.inside.form _ _ _ _ _ _ _ _ count c.self.invariant.placed (c.self.invariant.at_row
+            c.in_default.is)
           c.in-Ok.ensures.ok
           c.in-Ok.ensures.same_end c.place-self-inside.ensures (c.lines_are_read_in_one_way.ensures _ _ _);
       at_row = λ none.
-          row_after _ _ _ _ _ _ _ _ _ count c.self.invariant.placed (c.self.invariant.at_row none) c.in-Ok.ensures.ok
+          row_after c.self.inside.form _ _ _ _ _ _ _ _ count c.self.invariant.placed (c.self.invariant.at_row none)
+            c.in-Ok.ensures.ok
           c.in-Ok.ensures.same_end c.place-self-inside.ensures (c.lines_are_read_in_one_way.ensures _ _ _);
     }
 
@@ -30,14 +32,15 @@ returns-in-Ok c =
     rw (← c.self.view_is) (record {
       no_fault = search rules;
       due = search rules;
-      line = line_between _ _ _ _ _ _ _ _ _ count c.self.invariant.placed here ok same_end c.place-self-inside.ensures
+      line = line_between c.self.inside.form _ _ _ _ _ _ _ _ count c.self.invariant.placed here ok same_end
+        c.place-self-inside.ensures
           (c.lines_are_read_in_one_way.ensures _ _ _);
       next_row = search rules;
       read = search rules;
       same_form = search rules;
       same_bytes = search rules;
       still_no_fault = search rules;
-      within = placed_after _ _ _ _ _ _ _ _ _ count c.self.invariant.placed here ok same_end
+      within = placed_after c.self.inside.form _ _ _ _ _ _ _ _ count c.self.invariant.placed here ok same_end
           c.place-self-inside.ensures (c.lines_are_read_in_one_way.ensures _ _ _);
     })
 

@@ -6,20 +6,20 @@ pub returns-in-Ok-TwoDimensional : goal.returns-in-Ok-TwoDimensional
 returns-in-Ok-TwoDimensional c =
     let here = c.self.invariant.at_row (rw (← c.self.view_is) at c.requires) in
     let begun = rw (c.again-ahead.ensures, here, c.in-Ok-TwoDimensional.field-0-is)
-    at c.in-Ok-TwoDimensional.ensures.ok in
+    at c.in-Ok-TwoDimensional.ensures.read in
     rw (← c.self.view_is) (c.if-self.false, (_, begun))
 
 pub returns-in-Ok-OneDimensional : goal.returns-in-Ok-OneDimensional
 returns-in-Ok-OneDimensional c =
     let here = c.self.invariant.at_row (rw (← c.self.view_is) at c.requires) in
     let begun = rw (c.again-ahead.ensures, here, c.in-Ok-OneDimensional.field-0-is)
-    at c.in-Ok-OneDimensional.ensures.ok in
+    at c.in-Ok-OneDimensional.ensures.read in
     rw (← c.self.view_is) (λ due two. not_two c.self.inside.form.coding c.self.inside.row
     (source_of c.self.inside.form.order c.self.inside.bytes.now c.self.inside.place).left _ begun two)
 
 pub returns-in-Err : goal.returns-in-Err
 returns-in-Err c =
     let here = c.self.invariant.at_row (rw (← c.self.view_is) at c.requires) in
-    let stop = rw (c.again-ahead.ensures, here) at c.in-Err.ensures.err in
+    let stop = rw (c.again-ahead.ensures, here) at c.in-Err.ensures.read in
     rw (← c.self.view_is) (λ due two. not_begun c.self.inside.form.coding c.self.inside.row
     (source_of c.self.inside.form.order c.self.inside.bytes.now c.self.inside.place).left _ stop two)

@@ -1,6 +1,7 @@
-use Rattle.std.proofs.Common.{List, length, refl, subst}
+use Rattle.std.proofs.Common.{◌≡◌, List, length, refl, subst, ap, sym, ◌∙◌}
 use Rattle.fax_bits.specs.declared.Colour.{Colour}
-use Rattle.fax_page.specs.Lines.{IsRowIn}
+use Rattle.fax_bits.specs.Reading.{read}
+use Rattle.fax_page.specs.Lines.{read_codes}
 use Rattle.fax_page.proofs.FirstCodeLemmas.{line_begun}
 use Rattle.fax_page.proofs.rows_in_turn.RowsInTurn.read.Goals as goal
 
@@ -10,11 +11,11 @@ returns-then-take_white-clause-ok c =
     let row = c.args.self.now in
     let codes = c.read_start.new.source.left in
     let rest = c.take_white.new.source.left in
-    let read = subst (λ (r : List Colour). IsRowIn dimension (length r) r codes r rest) c.reference.ensures
+    let coded = subst (λ (r : List Colour). read_codes dimension (length r) r codes ≡ read r rest) c.reference.ensures
     (c.if-take_white.ensures.row refl) in
     line_begun c.args.form c.args.i row row c.args.source.now.left codes rest dimension c.requires.some_pels
-    c.in-Ok.ensures.ok
-    (subst (λ n. IsRowIn dimension n row codes row rest) c.requires.width read)
+    c.in-Ok.ensures.read
+    (ap (λ n. read_codes dimension n row codes) (sym c.requires.width) ∙ coded)
 
 pub returns-in-Ok-read_codes-clause-ok : goal.returns-in-Ok-read_codes-clause-ok
 returns-in-Ok-read_codes-clause-ok c =
@@ -22,7 +23,7 @@ returns-in-Ok-read_codes-clause-ok c =
     let reference = c.args.self.now in
     let row = c.read_codes.new.self in
     let rest = c.read_codes.new.source.left in
-    let read = rw (c.if-take_white.ensures.unchanged refl) at c.in-Ok-read_codes.ensures.ok in
+    let coded = rw (c.if-take_white.ensures.unchanged refl) at c.in-Ok-read_codes.ensures.read in
     line_begun c.args.form c.args.i reference row c.args.source.now.left c.read_start.new.source.left rest dimension
-    c.requires.some_pels c.in-Ok.ensures.ok
-    (subst (λ n. IsRowIn dimension n reference c.read_start.new.source.left row rest) c.requires.width read)
+    c.requires.some_pels c.in-Ok.ensures.read
+    (ap (λ n. read_codes dimension n reference c.read_start.new.source.left) (sym c.requires.width) ∙ coded)

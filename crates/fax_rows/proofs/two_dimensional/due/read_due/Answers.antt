@@ -1,4 +1,6 @@
-use Rattle.std.proofs.Common.{List, ℕ, inl, inr, subst}
+use Rattle.std.proofs.Common.{List, ℕ, inl, inr, subst, ap, sym, ◌∙◌}
+use Rattle.fax_bits.specs.Reading.{map_fault, failed}
+use Rattle.fax_rows.specs.ReadRows.{row_fault}
 use Rattle.fax_bits.specs.declared.mode_codes.ModeCode.TheVariants.{Horizontal}
 use Rattle.fax_rows.specs.declared.RowFault.{RowFault}
 use Rattle.fax_rows.specs.code.PlacedReached.{placed_position}
@@ -36,4 +38,4 @@ returns-in-Err-Due-clause-stop g c b is =
 pub returns-in-Err-clause-stop : goal.returns-in-Err-clause-stop
 returns-in-Err-clause-stop g c b is =
     let same = rw c.in-Mode.is at is in
-    rw same (inl (c.in-Err.fault, c.in-Err.ensures.err, c.from.ensures))
+    rw same (inl (ap (map_fault row_fault) c.in-Err.ensures.read ∙ ap (λ f. failed f) (sym c.from.ensures)))
