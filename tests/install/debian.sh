@@ -15,7 +15,7 @@ debian() {
     claim 'the .deb has the licences of what is inside' has_licence "$room/debian" faxpages licences/program.txt
     claim 'the .deb names what of Debian is inside' names_parts "$(dpkg-deb -f "$1" Built-Using)"
     claim 'each script has a manual page there' leads_to_pages "$room/debian/usr/share/man/man1" 'faxpages-*.1.gz' \
-        "$(find recipes -name 'faxpages-*' | wc -l)"
+        "$(find recipes -name 'faxpages-*' -perm /111 | wc -l)"
     claim 'the .deb has usual permissions' has_modes "$room/debian/usr"
     claim 'zsh finds its completions there' test -f "$room/debian/usr/share/zsh/vendor-completions/_faxpages"
     ! has lintian 'the .deb is not linted' || claim 'lintian finds no error' lintian --fail-on error "$1"

@@ -137,7 +137,7 @@ class Server:
         self.put("filter/faxtopdf", f"{TOP}/cups/faxtopdf")
         self.put("backend/faxpages", f"{TOP}/cups/faxpages")
         self.put("filter/faxpages", program)
-        for name in ("faxpages-from-pdf", *scripts):
+        for name in ("faxpages-from-pdf", "faxpages-shared.sh", *scripts):
             self.put(f"filter/{name}", f"{TOP}/recipes/{name}")
         for name in ("faxpages.types", "faxpages.convs"):
             shutil.copy(f"{TOP}/cups/{name}", f"{self.folder}/etc")
