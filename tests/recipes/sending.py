@@ -9,6 +9,7 @@ import shutil
 from typing import Iterator
 
 from tests import Claim
+from tests.recipes import shown
 from tests.recipes.room import Room, Tests
 from tests.convert import files, pages
 from tests.recipes.room import HOSTILE, WIDTH, is_there
@@ -45,6 +46,7 @@ def from_pdf(room: Room, commands: str) -> Iterator[Claim]:
     before = room.get("fine.tif")
     yield from not_written_over(room, "letter.pdf", "fine.tif")
     yield from bounded(room)
+    yield from shown.pages_are_as_shown(room)
     room.put("letter.pdf", b"no PDF")
     status = room.call("faxpages-from-pdf", "--replace", "letter.pdf", "fine.tif")[0]
     yield "no PDF", (status, room.get("fine.tif") == before), (1, True)
@@ -325,7 +327,7 @@ def others(room: Room, commands: str) -> Iterator[Claim]:
 
 
 TESTS: Tests = {
-    "Send a PDF": (["pdftoppm", "img2pdf", "tiffset"], from_pdf),
+    "Send a PDF": (["pdftoppm", "img2pdf", "tiffset", "gs"], from_pdf),
     "A fax out of a PDF": (
         ["pdfimages", "pdftoppm", "tiffset", "tiffcp", "tiff2pdf", "img2pdf", "pnmtopng", "gs"],
         out_of_pdf,
