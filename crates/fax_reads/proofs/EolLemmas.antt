@@ -24,7 +24,8 @@ use Rattle.fax_page.specs.declared.Dimension.{Dimension}
 use Rattle.fax_page.specs.declared.Dimension.TheVariants.{OneDimensional, TwoDimensional}
 use Rattle.fax_page.specs.declared.StripForm.{StripForm}
 use Rattle.fax_bits.specs.Reading.{read}
-use Rattle.fax_page.specs.Lines.{Coding, IsLine, NextOne, ends_line, in_code, next_one, read_codes, read_start}
+use Rattle.fax_page.specs.declared.Coding.{Coding}
+use Rattle.fax_page.specs.Lines.{IsLine, NextOne, ends_line, in_code, next_one, read_codes, read_start}
 use Rattle.fax_page.proofs.BegunLemmas.{one_begun}
 use Rattle.fax_page.proofs.LineParts.{parts}
 use Rattle.fax_page.specs.Lines.{not_there}

@@ -1,5 +1,6 @@
 -- The examples, computed.
 use Rattle.std.proofs.Common.{refl}
+use Rattle.fax_bits.specs.Reading.{steps}
 use Rattle.fax_bits.specs.Bits.{bits, byte_bits, code_bits}
 use Rattle.fax_bits.specs.Tables.{modes, white_runs, black_runs, white_terminating, black_terminating, white_make_up}
 use Rattle.fax_bits.specs.Tables.{black_make_up, common_make_up}
@@ -7,7 +8,7 @@ use Rattle.fax_rows.specs.Rows.{first_place, next_change, b1}
 use Rattle.fax_reads.specs.laws.Examples.{AreStripsRead}
 
 pub are_read : AreStripsRead
-unfolding bits byte_bits code_bits modes white_runs black_runs white_terminating black_terminating white_make_up
+unfolding steps bits byte_bits code_bits modes white_runs black_runs white_terminating black_terminating white_make_up
     black_make_up common_make_up first_place next_change b1
 are_read = record {
   faults_of_mh = record {

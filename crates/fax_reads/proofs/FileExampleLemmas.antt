@@ -1,5 +1,6 @@
 -- The worked files, computed.
 use Rattle.std.proofs.Common.{◌≡◌, ℕ, List, [], map, refl}
+use Rattle.fax_bits.specs.Reading.{steps}
 use Rattle.fax_bits.specs.declared.Colour.{Colour}
 use Rattle.fax_bits.specs.Bits.{bits, byte_bits, code_bits}
 use Rattle.fax_bits.specs.Tables.{modes, white_runs, black_runs, white_terminating, black_terminating, white_make_up}
@@ -43,7 +44,7 @@ module _ (read : FilesAreReadByFunctions) where
   has_forms file forms end are = record { are = (read.forms file forms end).1 are }
 
   headers : AreFaultsOfHeaders
-  unfolding bits byte_bits code_bits modes white_runs black_runs white_terminating black_terminating white_make_up
+  unfolding steps bits byte_bits code_bits modes white_runs black_runs white_terminating black_terminating white_make_up
       black_make_up common_make_up first_place next_change b1 number_at header read_chain_from read_chain read_page
       entries_at values_place value_at has_integers scalar rational_of form_in page strip_bytes field_bytes
   headers = record {
@@ -57,7 +58,7 @@ module _ (read : FilesAreReadByFunctions) where
   }
 
   chains : AreFaultsOfChains
-  unfolding bits byte_bits code_bits modes white_runs black_runs white_terminating black_terminating white_make_up
+  unfolding steps bits byte_bits code_bits modes white_runs black_runs white_terminating black_terminating white_make_up
       black_make_up common_make_up first_place next_change b1 number_at header read_chain_from read_chain read_page
       entries_at values_place value_at has_integers scalar rational_of form_in page strip_bytes field_bytes
   chains = record {
@@ -72,7 +73,7 @@ module _ (read : FilesAreReadByFunctions) where
   }
 
   fields : AreFaultsOfFields
-  unfolding bits byte_bits code_bits modes white_runs black_runs white_terminating black_terminating white_make_up
+  unfolding steps bits byte_bits code_bits modes white_runs black_runs white_terminating black_terminating white_make_up
       black_make_up common_make_up first_place next_change b1 number_at header read_chain_from read_chain read_page
       entries_at values_place value_at has_integers scalar rational_of form_in page strip_bytes field_bytes
   fields = record {
@@ -110,7 +111,7 @@ module _ (read : FilesAreReadByFunctions) where
   }
 
   strips : AreFaultsOfStrips
-  unfolding bits byte_bits code_bits modes white_runs black_runs white_terminating black_terminating white_make_up
+  unfolding steps bits byte_bits code_bits modes white_runs black_runs white_terminating black_terminating white_make_up
       black_make_up common_make_up first_place next_change b1 number_at header read_chain_from read_chain read_page
       entries_at values_place value_at has_integers scalar rational_of form_in page strip_bytes field_bytes
   strips = record {
@@ -123,7 +124,7 @@ module _ (read : FilesAreReadByFunctions) where
   }
 
   whole : AreWholeFiles
-  unfolding bits byte_bits code_bits modes white_runs black_runs white_terminating black_terminating white_make_up
+  unfolding steps bits byte_bits code_bits modes white_runs black_runs white_terminating black_terminating white_make_up
       black_make_up common_make_up first_place next_change b1 number_at header read_chain_from read_chain read_page
       entries_at values_place value_at has_integers scalar rational_of form_in page strip_bytes field_bytes
   whole = record {
@@ -139,7 +140,7 @@ module _ (read : FilesAreReadByFunctions) where
   }
 
   sample : IsSampleRead
-  unfolding bits byte_bits code_bits modes white_runs black_runs white_terminating black_terminating white_make_up
+  unfolding steps bits byte_bits code_bits modes white_runs black_runs white_terminating black_terminating white_make_up
       black_make_up common_make_up first_place next_change b1 number_at header read_chain_from read_chain read_page
       entries_at values_place value_at has_integers scalar rational_of form_in page strip_bytes field_bytes
   sample = record {

@@ -26,16 +26,16 @@ use Rattle.fax_reads.specs.Files.{read_row, read_rows, row_or_end, rows_from}
 use Rattle.fax_reads.specs.laws.Files.{FilesAreReadByFunctions}
 
 -- one answer that a function gives is the one that is defined, and the other way round
-both_ways : {A : Type 0} {holds : A → Type 0} → IsOneAnswer holds → (read : A) → holds read → (answer : A)
-    → holds answer ↔ (read ≡ answer)
-both_ways {A} {holds} only read is answer = (λ at. same_answer only read answer is at, λ same. subst holds same is)
+both_ways : {A : Type 0} {holds : A → Type 0} → IsOneAnswer holds → (found : A) → holds found → (answer : A)
+    → holds answer ↔ (found ≡ answer)
+both_ways {A} {holds} only found is answer = (λ at. same_answer only found answer is at, λ same. subst holds same is)
 
 -- so is one list with its end
-pub both_lists : {A : Type 0} {holds : List A → End → Type 0} → IsOne holds → (read : AllRead A)
-    → holds read.items read.end → (items : List A)
-    (end : End) → holds items end ↔ (read ≡ record { items = items; end = end })
-both_lists {A} {holds} only read is items end = (
-  λ at. let same = two_of only read.items items read.end end is at in rw (← same.0, ← same.1) refl,
+pub both_lists : {A : Type 0} {holds : List A → End → Type 0} → IsOne holds → (found : AllRead A)
+    → holds found.items found.end → (items : List A)
+    (end : End) → holds items end ↔ (found ≡ record { items = items; end = end })
+both_lists {A} {holds} only found is items end = (
+  λ at. let same = two_of only found.items items found.end end is at in rw (← same.0, ← same.1) refl,
   λ same. subst (λ (all : AllRead A). holds all.items all.end) same is,
 )
 

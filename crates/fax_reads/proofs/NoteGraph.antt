@@ -16,7 +16,7 @@ use Rattle.fax_page.specs.declared.Dimension.{Dimension}
 use Rattle.fax_page.specs.Lines.{IsLine, read_start, white_row}
 use Rattle.fax_page.proofs.LineParts.{LineParts, parts}
 use Rattle.fax_page.specs.Strip.{AreLines, HasEndMark, HasOtherChoice, IsEndMark, IsNotedAs}
-use Rattle.fax_page.specs.Strip.{row_bits}
+use Rattle.fax_page.specs.Strip.{HasOtherCodes, row_bits}
 use Rattle.fax_bits.specs.Codes.{after_front}
 use Rattle.fax_page.specs.Lines.{read_start}
 use Rattle.fax_page.specs.reads.Uncounted.{after_mark}

@@ -1,5 +1,6 @@
 -- The worked reports, computed.
 use Rattle.std.proofs.Common.{◌≡◌, ℕ, List, refl, ◌∙◌, sym}
+use Rattle.fax_bits.specs.Reading.{steps}
 use Rattle.fax_bits.specs.Bits.{bits, byte_bits, code_bits}
 use Rattle.fax_bits.specs.Tables.{modes, white_runs, black_runs, white_terminating, black_terminating, white_make_up}
 use Rattle.fax_bits.specs.Tables.{black_make_up, common_make_up}
@@ -20,7 +21,7 @@ module _ (reads : ReportsAreReadByAFunction) where
   has file read e report = (λ is. sym e ∙ (reads file report).0 is, λ same. (reads file report).1 (e ∙ same))
 
   pub reports_read : AreReportsRead
-  unfolding bits byte_bits code_bits modes white_runs black_runs white_terminating black_terminating white_make_up
+  unfolding steps bits byte_bits code_bits modes white_runs black_runs white_terminating black_terminating white_make_up
       black_make_up common_make_up first_place next_change b1 number_at header read_chain_from read_chain read_page
       entries_at values_place value_at has_integers run_code_bits mode_bits run_bits alternating_bits step_bits
       runs_after scalar rational_of form_in page strip_bytes field_bytes

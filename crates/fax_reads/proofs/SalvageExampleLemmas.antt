@@ -1,5 +1,6 @@
 -- The worked runs of salvage, computed.
 use Rattle.std.proofs.Common.{◌≡◌, ℕ, List, refl}
+use Rattle.fax_bits.specs.Reading.{steps}
 use Rattle.fax_bits.specs.Bits.{bits, byte_bits, code_bits}
 use Rattle.fax_bits.specs.Tables.{modes, white_runs, black_runs, white_terminating, black_terminating, white_make_up}
 use Rattle.fax_bits.specs.Tables.{black_make_up, common_make_up}
@@ -35,7 +36,7 @@ has_uncounted read coding bytes rows end same =
     record { are = (read.uncounted (form coding 8 most_rows) (bits MsbFirst bytes) rows end).1 same }
 
 pub salvages : SalvagesAreReadByFunctions → DamagedStripsAreReadByFunctions → AreSalvagesRead
-unfolding bits byte_bits code_bits modes white_runs black_runs white_terminating black_terminating white_make_up
+unfolding steps bits byte_bits code_bits modes white_runs black_runs white_terminating black_terminating white_make_up
     black_make_up common_make_up first_place next_change b1 number_at header read_chain_from read_chain read_page
     entries_at values_place value_at has_integers scalar rational_of form_in page strip_bytes bytes_inside field_bytes
 salvages read strips = record {

@@ -1,5 +1,6 @@
 -- The samples, computed.
 use Rattle.std.proofs.Common.{refl}
+use Rattle.fax_bits.specs.Reading.{steps}
 use Rattle.fax_bits.specs.Bits.{bits, byte_bits, code_bits}
 use Rattle.fax_bits.specs.Tables.{modes, white_runs, black_runs, white_terminating, black_terminating, white_make_up}
 use Rattle.fax_bits.specs.Tables.{black_make_up, common_make_up}
@@ -14,7 +15,7 @@ use Rattle.fax_reads.specs.laws.SampleExamples.{AreSamplesRead}
 use Rattle.fax_reads.proofs.FileExampleLemmas.{has}
 
 pub samples : FilesAreReadByFunctions → AreSamplesRead
-unfolding bits byte_bits code_bits modes white_runs black_runs white_terminating black_terminating white_make_up
+unfolding steps bits byte_bits code_bits modes white_runs black_runs white_terminating black_terminating white_make_up
     black_make_up common_make_up first_place next_change b1 number_at header read_chain_from read_chain read_page
     entries_at values_place value_at has_integers scalar rational_of form_in page strip_bytes field_bytes
 samples read = record {

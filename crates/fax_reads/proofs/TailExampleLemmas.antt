@@ -1,5 +1,6 @@
 -- The worked cursors and places, computed.
 use Rattle.std.proofs.Common.{◌≡◌, ℕ, List, map, refl}
+use Rattle.fax_bits.specs.Reading.{steps}
 use Rattle.fax_bits.specs.declared.Colour.{Colour}
 use Rattle.fax_bits.specs.Bits.{bits, byte_bits, code_bits}
 use Rattle.fax_bits.specs.Tables.{modes}
@@ -42,7 +43,7 @@ module _ (read : TailsAreReadByFunctions) where
       }
 
   cursors : AreTailsOfCursors
-  unfolding bits byte_bits code_bits modes first_place next_change b1 number_at header read_chain_from read_chain
+  unfolding steps bits byte_bits code_bits modes first_place next_change b1 number_at header read_chain_from read_chain
       read_page entries_at values_place value_at has_integers scalar rational_of form_in page strip_bytes field_bytes
       runs_after
   cursors = record {
@@ -63,7 +64,7 @@ module _ (read : TailsAreReadByFunctions) where
   }
 
   places : AreTailsOfPlaces
-  unfolding bits byte_bits code_bits modes first_place next_change b1 number_at header read_chain_from read_chain
+  unfolding steps bits byte_bits code_bits modes first_place next_change b1 number_at header read_chain_from read_chain
       read_page entries_at values_place value_at has_integers scalar rational_of form_in page strip_bytes field_bytes
       runs_after
   places = record {
@@ -78,7 +79,7 @@ module _ (read : TailsAreReadByFunctions) where
   }
 
   forms : AreTailsOfForms
-  unfolding bits byte_bits code_bits modes first_place next_change b1 number_at header read_chain_from read_chain
+  unfolding steps bits byte_bits code_bits modes first_place next_change b1 number_at header read_chain_from read_chain
       read_page entries_at values_place value_at has_integers scalar rational_of form_in page strip_bytes field_bytes
       runs_after
   forms = record {

@@ -6,7 +6,8 @@ use Rattle.fax_bits.specs.declared.Colour.{Colour}
 use Rattle.fax_page.specs.declared.StripFault.{StripFault}
 use Rattle.fax_page.specs.declared.StripForm.{StripForm}
 use Rattle.fax_bits.specs.Reading.{read}
-use Rattle.fax_page.specs.Lines.{Dimension, IsLine, ends_line, next_one, read_start}
+use Rattle.fax_page.specs.declared.Dimension.{Dimension}
+use Rattle.fax_page.specs.Lines.{IsLine, ends_line, next_one, read_start}
 use Rattle.fax_page.specs.Salvage.{AreSalvaged, IsEolDue, SalvagedRow, after_eol, found}
 
 -- the codes of a row hold no EOL, and none begins among them and ends after them where one follows:
