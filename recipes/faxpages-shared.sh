@@ -5,7 +5,7 @@
 package_of() {
     case $1 in
     faxpages | faxpages-*) echo faxpages ;;
-    pamarith | pamdepth | pamfile | pgmmake | pngtopnm | pnmpad | pnmtopng | pnmtotiff | ppmtopgm | rgb3toppm) echo netpbm ;;
+    pam* | pgm* | pngtopnm | pnm* | ppm* | rgb3toppm) echo netpbm ;;
     tiff2pdf | tiffcp | tiffset) echo libtiff-tools ;;
     pdfimages | pdfinfo | pdftoppm) echo poppler-utils ;;
     python3) echo python3 ;;

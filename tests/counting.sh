@@ -5,8 +5,8 @@ trap 'rm -rf -- "$room"' EXIT
 passed=0
 failed=0
 
-# What a file says, or of a long one its beginning and its end, where the reason is: ten lines of each, with 400 letters a
-# line.
+# What a file says, or of a long one its beginning and its end, where the reason is: ten lines of each, with 400 letters
+# a line.
 shown() {
     local lines
     lines=$(wc -l <"$1")

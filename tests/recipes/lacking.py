@@ -1,5 +1,5 @@
-"""The scripts of recipes/ and cups/ without each of the programs that they call: they name it, and the package that has it.
-Which programs these are is seen as the scripts run: on the PATH is nothing but programs that note that they are called."""
+"""The scripts of recipes/ and cups/ without each of the programs that they call: they name it, and the package that has
+it. Which programs these are is seen as the scripts run: on the PATH are just programs that note that they are called."""
 
 from __future__ import annotations
 
