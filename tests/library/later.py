@@ -62,7 +62,8 @@ def notes(claims: Claims) -> None:
 def faults(claims: Claims) -> None:
     """A fault has its number for a name, and its tag."""
     later("fault")
-    reports: dict[str, faxpages.Report | faxpages.StripReport] = {"check": faxpages.check(FAX), "check_strip": faxpages.check_strip(STRIP, width=8)}
+    reports: dict[str, faxpages.Report | faxpages.StripReport] = {
+        "check": faxpages.check(FAX), "check_strip": faxpages.check_strip(STRIP, width=8)}
     for name, report in reports.items():
         claims.see(f"{name}: {report}", report.fault is not None and not report.ok and report.fault.line == LINE)
     fault = reports["check"].fault

@@ -4,6 +4,7 @@ draws; and jobs that are held, with the reason."""
 from __future__ import annotations
 
 import os
+import random
 import re
 import shutil
 import subprocess
@@ -11,6 +12,7 @@ import subprocess
 from tests.printing.room import Room
 from tests.printing import made, server
 from tests.printing.strangers import by_hand, new_identity
+from tests.recipes import shown
 
 FORMS = [("MH", "Fine", "1728"), ("MR", "Standard", "1728"), ("MMR", "Fine", "2048"), ("MMR", "Standard", "2432")]
 
@@ -71,10 +73,10 @@ def from_pdf(room: Room, path: str, form: tuple[str, str, str]) -> list[tuple[in
     return room.pages(fax)
 
 
-def as_cups_hands_it(room: Room, path: str) -> str:
+def as_cups_hands_it(room: Room, path: str, options: str = "") -> str:
     """The PDF that pdftopdf of cups-filters makes for the queue."""
     ran = subprocess.run(
-        [f"{server.SERVER_BIN}/filter/pdftopdf", "1", "user", "title", "1", "", path], capture_output=True, check=True,
+        [f"{server.SERVER_BIN}/filter/pdftopdf", "1", "user", "title", "1", options, path], capture_output=True, check=True,
         env={"PPD": f"{server.TOP}/cups/fax.ppd", "PATH": "/usr/bin:/bin", "CONTENT_TYPE": "application/pdf",
              "FINAL_CONTENT_TYPE": "application/pdf"}, timeout=server.PATIENCE)  # fmt: skip
     handed = room.made("handed.pdf")
@@ -120,6 +122,34 @@ def proportions(room: Room) -> None:
         room.claim(f"mixed page {page}: as high as A4", abs(len(rows) - 2292) <= 24, True)
         ink = [number for number, row in enumerate(rows) if any(row)]
         room.claim(f"mixed page {page}: there is ink", len(ink) > 100)
+
+
+def turned(room: Room) -> None:
+    """Jobs whose pages CUPS turns, or puts beside each other, and a document with turned pages: each page is as wide as
+    the fax, and has what Ghostscript shows of it."""
+    with open(room.made("turned.pdf"), "wb") as file:
+        rng = random.Random("turned")
+        file.write(shown.document(rng, [b"/MediaBox [0 0 595 842]" + words for words in (
+            b"", b" /Rotate 90", b" /Rotate 180 /CropBox [50 50 400 700]", b" /Rotate 270", b"")]))
+    cases = {"four": ("gs-4.pdf", "landscape"), "two a page": ("gs-4.pdf", "number-up=2"),
+             "upside down": ("gs-1.pdf", "orientation-requested=6"),
+             "on its side": ("gs-1.pdf", "orientation-requested=5"),
+             "turned pages": ("turned.pdf", ""), "turned again": ("turned.pdf", "landscape")}  # fmt: skip
+    jobs = {name: room.server.print("Fax", "-t", f"{name} fax:1", *(("-o", option) if option else ()), room.made(path))
+            for name, (path, option) in cases.items()}  # fmt: skip
+    for it, name in zip(room.server.ended(*jobs.values()), jobs):
+        room.claim(f"turned, {name}: {it.message}", it.state, "completed")
+    got = spooled(room.spool)
+    for name, (path, option) in cases.items():
+        handed = as_cups_hands_it(room, room.made(path), option)
+        pages = room.pages(got[f"{name} fax:1"][1]) if f"{name} fax:1" in got else []
+        count = room.run("pdfinfo", handed)[1].decode().partition("Pages:")[2].split()[0]
+        room.claim(f"turned, {name}: pages", (len(pages), {width for width, _ in pages}), (int(count), {1728}))
+        for number, (width, rows) in enumerate(pages, 1):
+            picture = shown.of_bits(b"".join(rows), width, len(rows))
+            wanted = shown.by_ghostscript(handed, number)
+            differ = [abs(one - other) for one, other in zip(picture.cells, wanted.cells)]
+            room.claim(f"turned, {name}, page {number}: differs by {max(differ):.2f}", max(differ) < shown.CELL)
 
 
 def held(room: Room) -> None:
@@ -422,6 +452,7 @@ def not_known(room: Room, folder: str, taken: str) -> None:
 def play(room: Room) -> None:
     ten(room)
     proportions(room)
+    turned(room)
     held(room)
     numbers(room)
     without_titles(room)

@@ -1,5 +1,5 @@
-"""Drawn PDFs of pages that are turned, cut by a crop box, of many sizes and of other units: faxpages-from-pdf draws each
-as Ghostscript shows it."""
+"""Drawn PDFs of pages that are turned, cut by a crop box, of many sizes and of other units: faxpages-from-pdf draws
+each as Ghostscript shows it."""
 
 from __future__ import annotations
 
@@ -29,14 +29,19 @@ class Picture(NamedTuple):
     cells: list[float]
 
 
+def shape(rng: random.Random) -> bytes:
+    """A rectangle, black or grey."""
+    return b"%.2f g %d %d %d %d re f" % (rng.choice([0, 0, 0.5]), rng.randrange(-100, 1100), rng.randrange(-100, 1300),
+                                         rng.randrange(20, 300), rng.randrange(20, 300))
+
+
 def document(rng: random.Random, pages: list[bytes]) -> bytes:
     """A PDF of pages with these words in their dictionaries, and black and grey rectangles on them."""
     objects = [b"<< /Type /Catalog /Pages 2 0 R >>", b""]
     for words in pages:
-        shapes = [b"%.2f g %d %d %d %d re f" % (rng.choice([0, 0, 0.5]), rng.randrange(-100, 1100), rng.randrange(-100, 1300),
-                                                rng.randrange(20, 300), rng.randrange(20, 300)) for _ in range(12)]
-        text = b"\n".join(shapes)
-        objects.append(b"<< /Type /Page /Parent 2 0 R %s /Contents %d 0 R /Resources << >> >>" % (words, len(objects) + 2))
+        text = b"\n".join(shape(rng) for _ in range(12))
+        contents = b"/Contents %d 0 R /Resources << >>" % (len(objects) + 2)
+        objects.append(b"<< /Type /Page /Parent 2 0 R %s %s >>" % (words, contents))
         objects.append(b"<< /Length %d >>\nstream\n%s\nendstream" % (len(text), text))
     kids = b" ".join(b"%d 0 R" % number for number in range(3, len(objects) + 1, 2))
     objects[1] = b"<< /Type /Pages /Kids [%s] /Count %d >>" % (kids, len(pages))
@@ -60,7 +65,8 @@ def drawn_page(rng: random.Random) -> bytes:
     words = b"/MediaBox " + numbers((left, below, left + wide, below + high))
     if rng.random() < 0.4:
         # One that is inside, or goes beyond the page at a side.
-        words += b" /CropBox " + numbers((left + rng.choice([-20, 40]), below + 60, left + wide - 70, below + high - 90))
+        edge = left + rng.choice([-20, 40])
+        words += b" /CropBox " + numbers((edge, below + 60, left + wide - 70, below + high - 90))
     if rng.random() < 0.2:
         words += b" /UserUnit 1.5"
     turn = rng.choice([0, 0, 90, 180, 270, -90, 450])
@@ -108,8 +114,8 @@ def by_fax(room: Room, name: str) -> list[Picture]:
 
 def by_ghostscript(path: str, page: int) -> Picture:
     """A page of a PDF as Ghostscript shows it."""
-    words = ["gs", "-q", "-dNOPAUSE", "-dBATCH", "-dSAFER", "-sDEVICE=pgmraw", "-r72", "-dUseCropBox", "-dGraphicsAlphaBits=4",
-             f"-dFirstPage={page}", f"-dLastPage={page}", "-sOutputFile=-", path]  # fmt: skip
+    words = ["gs", "-q", "-dNOPAUSE", "-dBATCH", "-dSAFER", "-sDEVICE=pgmraw", "-r72", "-dGraphicsAlphaBits=4",
+             "-dUseCropBox", f"-dFirstPage={page}", f"-dLastPage={page}", "-sOutputFile=-", path]  # fmt: skip
     data = subprocess.run(words, stdout=subprocess.PIPE, check=True).stdout
     head = re.match(rb"P5\s+(?:#.*\n)*(\d+) (\d+)\s+255\s", data)
     assert head
