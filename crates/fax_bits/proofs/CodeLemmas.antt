@@ -1,6 +1,6 @@
 -- Codes as the function reads them: a code of a table that begins the bits is the one that is read.
-use Rattle.std.proofs.Common.{arith, ◌≡◌, zero, suc, ◌≤◌, List, [], ◌∷◌, ◌++◌, length, Bool, true, false, true≢false}
-use Rattle.std.proofs.Common.{cond, refl, ap, sym, subst, ◌∙◌, Option, Some, None, Result, Ok, Err}
+use Rattle.std.proofs.Common.{arith, ◌≡◌, zero, suc, List, [], ◌∷◌, ◌++◌, Bool, true, false}
+use Rattle.std.proofs.Common.{cond, refl, ap, sym, subst, Option, Some, None, Result, Ok, Err}
 use Rattle.std.specs.Prelude.{MatchOption, Contains, IfOk}
 use Rattle.std.specs.List.{list_any}
 use Rattle.std.proofs.lemmas.List.Folds.{Any-from_list_any, list_any-from_Any}
@@ -104,7 +104,7 @@ module _ {M : Type 0} (b : List Bool) where
       by : (r : Option (M × List Bool)) → IsFirst table r
           → read_or (code_fault table b) r ≡ read meaning rest
       by (Some (found, left)) first = let same = takes_one table free b found meaning left rest first taken
-        in cc (same.0, same.1)
+          in cc (same.0, same.1)
       by None none = absurd (none taken.entry taken.listed (rest, taken.spelled))
 
   pub none_is_read : (table : List (CodeEntry M)) → HasNoCode table b → read_code table b ≡ failed (code_fault table b)
@@ -117,12 +117,17 @@ module _ {M : Type 0} (b : List Bool) where
 
   -- the bits end within a code of the table
   pub ends_within : (table : List (CodeEntry M)) (entry : CodeEntry M) → Contains table entry
-    → IsCutBy (bits_of entry) b
+      → IsCutBy (bits_of entry) b
       → code_fault table b ≡ DataEnds
   ends_within table entry listed cut =
       let is : is_cut_code (bits_of entry) b ≡ true = rw (sym cut.2) (is_cut_of b cut.1 cut.0) in
-      let any = list_any-from_Any (λ entry. is_cut_code (bits_of entry) b) table (listed.0, entry, listed.1, listed.2,
-        is) in
+      let any = list_any-from_Any (λ entry. is_cut_code (bits_of entry) b) table (
+        listed.0,
+        entry,
+        listed.1,
+        listed.2,
+        is,
+      ) in
       rw any refl
 
   -- or within none

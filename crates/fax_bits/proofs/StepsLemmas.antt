@@ -1,5 +1,5 @@
 -- What is read step by step: one law of its steps, and one rule for what holds of all that is read.
-use Rattle.std.proofs.Common.{arith, ◌≡◌, ℕ, zero, suc, ◌<◌, List, length, Bool, refl, ap, sym, ◌∙◌}
+use Rattle.std.proofs.Common.{arith, ◌≡◌, ℕ, zero, suc, ◌<◌, List, length, Bool, refl, ap, ◌∙◌}
 use Rattle.fax_bits.specs.Reading.{Read, read, failed, ◌>>=◌, map_fault}
 use Rattle.fax_bits.specs.Reading.{Step, onward, done, stopped, step_by, and_more, steps_within, steps}
 
@@ -95,7 +95,7 @@ module _ {S A F : Type 0} (fault : F) (step : S → List Bool → Step S A F)
   -- that is read
   module _ (R : S → List Bool → A → List Bool → Type 0)
       (last : (at : S) (b : List Bool) (answer : A) (rest : List Bool) → step at b ≡ done answer rest
-        → R at b answer rest)
+      → R at b answer rest)
       (before : (at next : S) (b left : List Bool) (answer : A) (rest : List Bool) → step at b ≡ onward next left
       → R next left answer rest
       → R at b answer rest) where

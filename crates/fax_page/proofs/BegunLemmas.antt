@@ -1,5 +1,5 @@
 -- How a row begins, as it is read and as it is defined.
-use Rattle.std.proofs.Common.{arith, ◌≡◌, ℕ, List, Bool, sym, ◌∙◌, inl, inr}
+use Rattle.std.proofs.Common.{◌≡◌, ℕ, List, Bool, sym, ◌∙◌, inl, inr}
 use Rattle.fax_bits.specs.Reading.{Read, read, failed}
 use Rattle.fax_rows.specs.declared.RowFault.{RowFault}
 use Rattle.fax_bits.specs.declared.Colour.{Colour}

@@ -1,7 +1,7 @@
 -- The codes of a row begin with fewer than eleven zeros and a 1.
 use Rattle.std.proofs.Common.{arith, ◌≡◌, ℕ, zero, suc, ◌<◌, List, [], ◌∷◌, ◌++◌, length, get_or, map, Bool, true}
 use Rattle.std.proofs.Common.{false}
-use Rattle.std.proofs.Common.{refl, ap, subst, ◌∙◌, Some, None}
+use Rattle.std.proofs.Common.{refl, ap, subst, ◌∙◌}
 use Rattle.std.specs.Prelude.{◌&&◌}
 use Rattle.fax_bits.specs.declared.codes.CodeEntry.{CodeEntry}
 use Rattle.fax_bits.specs.declared.Colour.{Colour}
@@ -12,7 +12,6 @@ use Rattle.fax_bits.specs.Codes.{IsRun, bits_of, Takes, Spells}
 use Rattle.fax_bits.specs.Reading.{read}
 use Rattle.fax_bits.specs.Tables.{run_table, modes, white_runs, white_terminating, white_make_up, common_make_up}
 use Rattle.fax_bits.specs.views.Source.{HasZerosAhead}
-use Rattle.fax_rows.specs.Rows.{beginning}
 use Rattle.fax_rows.specs.ReadRows.{read_one_dimensional, read_two_dimensional}
 use Rattle.fax_rows.proofs.RowRuleLemmas.{runs_rule, first_step_rule}
 use Rattle.fax_page.specs.declared.Dimension.TheVariants.{OneDimensional, TwoDimensional}

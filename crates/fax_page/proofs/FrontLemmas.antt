@@ -88,7 +88,7 @@ module _ {F : Type 0} {ends : F} {more : List Bool} where
       → IsFront ends more b (r >>= next) (now >>= next)
   joined b (read x rest) now next front on =
       after_bits b rest (next x rest) (next x (rest ++ more)) (now >>= next) front.is.0 (ap (λ r. r >>= next)
-        front.is.1)
+      front.is.1)
       (on x rest)
   joined b (failed fault) now next front on = record { is = λ other. ap (λ r. r >>= next) (front.is other) }
 
@@ -118,7 +118,7 @@ module _ {F : Type 0} {ends : F} {more : List Bool} where
   step_tested b false s now t after first second = second
 
   step_stops : {S A : Type 0} (b : List Bool) (fault : F) → IsStepFront {S = S} {A = A} ends more b (stopped fault)
-    (stopped fault)
+      (stopped fault)
   step_stops b fault = record { is = λ other. refl }
 
   -- step after step

@@ -18,7 +18,7 @@ use Rattle.fax_page.specs.declared.StripFault.{StripFault}
 use Rattle.fax_page.specs.declared.StripFault.TheVariants.{DataEnds, EndMarker}
 use Rattle.fax_page.specs.declared.StripForm.{StripForm}
 use Rattle.fax_page.specs.Lines.{NextOne, ends_line, in_code, next_one, not_there, read_start, first_bits, check_first}
-use Rattle.fax_page.specs.Lines.{read_codes, strip_fault, codes_after, read_line, IsLine, IsCause}
+use Rattle.fax_page.specs.Lines.{read_codes, strip_fault, codes_after, IsLine, IsCause}
 use Rattle.fax_page.specs.code.Starts.{BeginsBelowEleven}
 use Rattle.fax_page.proofs.StartLaws.{by_next, eol_is, none_at}
 use Rattle.fax_page.proofs.StartLemmas.{eleven_ahead, eleven_alone}

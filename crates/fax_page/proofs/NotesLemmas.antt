@@ -51,12 +51,11 @@ module _ (reads : (form : StripForm) (i : ℕ) (reference : List Colour) → Rea
       → (rest ≡ remaining) × (now ≡ true)
   other_codes form i reference row b rest remaining other now noted line choice =
       let after = ((reads form i reference).line.one_answer b row row rest remaining noted.line line).1 in
-      let start = one_begun form.coding i b _ _ _ _ noted.start choice.2 in
-      (
+      let start = one_begun form.coding i b _ _ _ _ noted.start choice.2 in (
         after,
         marks now noted.noted.none (λ is. choice.3 (
-          sym start.1 ∙ is ∙ ap (λ (d : Dimension). row_bits d reference row ++ rest) start.0
-          ∙ ap (λ c. row_bits choice.0 reference row ++ c) after)),
+            sym start.1 ∙ is ∙ ap (λ (d : Dimension). row_bits d reference row ++ rest) start.0
+            ∙ ap (λ c. row_bits choice.0 reference row ++ c) after)),
       )
     where
       marks : (now : Bool) → (now ≡ false → IsChosen noted.dimension reference noted.codes row rest)

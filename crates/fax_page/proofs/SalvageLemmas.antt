@@ -4,7 +4,7 @@ use Rattle.fax_page.specs.code.Salvage.{IsSoughtFrom}
 use Rattle.fax_page.specs.code.Starts.{BeginsBelowEleven}
 use Rattle.fax_page.proofs.StartLaws.{IsStart}
 use Rattle.std.proofs.Common.{◌≡◌, ℕ, zero, suc, ◌+◌, ◌-◌, ◌<◌, ◌≤◌, List, [], ◌∷◌, ◌++◌, length, drop, replicate}
-use Rattle.std.proofs.Common.{Bool, true, false, Option, Some, None, Ok, Err, refl, ap, sym, ◌∙◌, arith}
+use Rattle.std.proofs.Common.{Bool, true, false, Option, Some, None, refl, ap, sym, ◌∙◌, arith}
 use Rattle.std.proofs.lemmas.List.{length-drop, drop-drop}
 use Rattle.std.specs.Prelude.{nat_lt, nat_le, if◌then◌else◌, option_map, ◌≢◌}
 use Rattle.std.proofs.lemmas.Bool.Decides.{nat_tests}

@@ -2,7 +2,6 @@
 use Rattle.fax_bits.specs.Reading.{Read, read, failed}
 use Rattle.fax_page.specs.code.Salvage.{IsSoughtFrom}
 use Rattle.fax_page.specs.declared.StripFault.TheVariants.{DataEnds}
-use Rattle.std.proofs.Common.{Result, Ok, Err}
 use Rattle.std.proofs.Common.{◌≡◌, ℕ, zero, suc, ◌+◌, ◌-◌, ◌<◌, ◌≤◌, List, [], ◌∷◌, ◌++◌, length, drop, replicate}
 use Rattle.std.proofs.Common.{Bool, true, false, Option, Some, None, refl, ap, sym, ◌∙◌, arith, inl, inr, subst}
 use Rattle.std.proofs.lemmas.List.{length-drop, drop-drop}

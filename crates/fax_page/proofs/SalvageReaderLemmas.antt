@@ -1,6 +1,6 @@
 -- A damaged strip that is gone through row by row.
 use Rattle.fax_page.specs.code.Starts.{BeginsBelowEleven}
-use Rattle.std.proofs.Common.{◌≡◌, ℕ, ◌+◌, ◌<◌, List, Bool, true, false, Option, Some, None, Err, refl, ap}
+use Rattle.std.proofs.Common.{◌≡◌, ℕ, ◌+◌, ◌<◌, List, Bool, true, false, Option, Some, None, Err, ap}
 use Rattle.std.proofs.Common.{arith, inl, inr}
 use Rattle.std.specs.Prelude.{◌⊎◌, MatchOption}
 use Rattle.fax_bits.specs.declared.Colour.{Colour}
@@ -18,7 +18,7 @@ read_over : (form : StripForm) (i : ℕ) (before : Option StripFault) (reference
     → IsReadOver form i before reference b row rest
 read_over form i before reference b row rest over line = record {
   line = line;
-  alone = λ lost two. elim over [ | inl none ↦ lost none | inr not_two ↦ not_two two ];
+  alone = λ lost two. elim over [ inl none ↦ lost none | inr not_two ↦ not_two two ];
 }
 
 module _ (old : StripState) (before : Option StripFault) (over : IsOverLost (salvaging old before) None) where

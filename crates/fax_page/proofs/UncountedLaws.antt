@@ -88,12 +88,16 @@ uncounted_rows_are_a_strip form b rows end is = record {
 written_cause : (form : StripForm) (i : ℕ) (reference : List Colour) (coding : Coding) (zeros : ℕ)
     → form.coding ≡ coding
     → (fault : StripFault) × IsCause form i reference (end_bits coding ++ replicate zeros false) fault
-written_cause form i reference Mh zeros is =
-    (DataEnds, cause_of form i reference _ DataEnds (inl (rw is (ap (start_by Mh i (replicate zeros false)) (at_zeros 0
-      zeros)))))
-written_cause form i reference Mr zeros is =
-    (DataEnds, cause_of form i reference _ DataEnds (inl (rw is (ap (start_by Mr i (replicate zeros false)) (at_zeros 0
-      zeros)))))
+written_cause form i reference Mh zeros is = (
+  DataEnds,
+  cause_of form i reference _ DataEnds (inl (rw is (ap (start_by Mh i (replicate zeros false)) (at_zeros 0
+      zeros)))),
+)
+written_cause form i reference Mr zeros is = (
+  DataEnds,
+  cause_of form i reference _ DataEnds (inl (rw is (ap (start_by Mr i (replicate zeros false)) (at_zeros 0
+      zeros)))),
+)
 written_cause form i reference Mmr zeros is = (
   EndMarker,
   cause_of form i reference (end_bits Mmr ++ replicate zeros false) EndMarker (inr (

@@ -54,8 +54,14 @@ module _ (one_read : OneDimensionalBitsAreRead) (two_read : TwoDimensionalBitsAr
       → read_codes dimension form.width reference (row_bits dimension reference row ++ more) ≡ read row more
   row_back OneDimensional reference row more reference_width width =
       ap (λ n. read_one_dimensional n (one_dimensional_bits row ++ more)) (sym width)
-      ∙ one_read row more (record { some = omega (arith, width, limits.some_pels); short = omega (arith, width,
-        limits.short_rows) })
+      ∙ one_read row more (record {
+        some = omega (arith, width, limits.some_pels);
+        short = omega (
+          arith,
+          width,
+          limits.short_rows,
+        );
+      })
   row_back TwoDimensional reference row more reference_width width =
       two_read reference row more
       (record { some = omega (arith, width, limits.some_pels); short = omega (arith, width, limits.short_rows) })

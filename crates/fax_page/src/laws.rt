@@ -14,8 +14,7 @@ ghost use Rattle.fax_page.specs.laws.Writer.{WritesRowByRow};
 /// The rows of a strip, up to its end, are what a function reads of its bits, in any coding.
 pub fn strips_are_read_by_functions()
     ensures { Graphs.StripsAreReadByFunctions }
-{
-}
+{}
 
 /// How rows end that nobody counted is what a function says, in any coding.
 pub fn ends_are_told_by_a_function()
@@ -154,8 +153,7 @@ pub fn ends_stay_whatever_follows()
 /// there is one list of what becomes of its rows, of as many as it has.
 pub fn strips_are_salvaged_in_one_way()
     ensures { Salvage.SalvagesStripsOneWay }
-{
-}
+{}
 
 /// The rows that are read before a fault are found: all of them, or where an EOL is missing after
 /// the last, all but that one.
@@ -198,5 +196,4 @@ pub fn uncounted_rows_are_left_in_one_way()
 /// what functions read of its bits (T.4, sections 4.1.2 and 4.2.2; T.6, section 2.2.1).
 pub fn damaged_strips_are_read_by_functions()
     ensures { Graphs.DamagedStripsAreReadByFunctions }
-{
-}
+{}

@@ -1,7 +1,5 @@
 -- Runs that are read one after another, with their colours and their sum.
-use Rattle.std.proofs.lemmas.Grind.{common_steps}
-use Rattle.std.proofs.Common.{◌≡◌, ℕ, zero, suc, ◌+◌, ◌<◌, List, [], ◌∷◌, length, take, Bool, arith}
-use Rattle.std.specs.Prelude.{sum}
+use Rattle.std.proofs.Common.{ℕ, List, [], ◌∷◌}
 use Rattle.fax_bits.specs.declared.Colour.{Colour}
 use Rattle.fax_rows.specs.Rows.{other}
 

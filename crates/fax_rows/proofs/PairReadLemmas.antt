@@ -63,7 +63,7 @@ first_more front total place colour old new first after right turn =
 pub read_on : {width : ℕ} {b : List Bool} {chosen also : Type 0} {total place : ℕ} {colour : Colour} {old new : List ℕ}
     {end next : ℕ} {mid rest : List Bool}
     → HasRead width b chosen total colour old end mid → total < width → read_run colour width total mid
-      ≡ read place rest
+    ≡ read place rest
     → total ≤ place
     → place ≤ width → TurnsAt old new end next place
     → (also → chosen × (mid ≡ run_bits colour (place - total) ++ rest)

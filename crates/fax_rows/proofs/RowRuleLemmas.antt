@@ -1,7 +1,7 @@
 -- What holds of each run and of each step that is read holds of the row.
-use Rattle.std.proofs.Common.{arith, ◌≡◌, ◌≢◌, ℕ, ◌+◌, ◌-◌, ◌<◌, ◌≤◌, List, ◌++◌, length, length-append, Bool, true}
+use Rattle.std.proofs.Common.{arith, ◌≡◌, ◌≢◌, ℕ, ◌-◌, ◌<◌, ◌≤◌, List, ◌++◌, length, length-append, Bool, true}
 use Rattle.std.proofs.Common.{false}
-use Rattle.std.proofs.Common.{cond, refl, ap, sym, subst, ◌∙◌, Some, None, replicate}
+use Rattle.std.proofs.Common.{cond, refl, sym, subst, Some, None, replicate}
 use Rattle.std.specs.Prelude.{nat_eq}
 use Rattle.std.proofs.lemmas.Bool.Decides.{nat_tests}
 use Rattle.std.proofs.lemmas.List.{length-replicate}
@@ -42,7 +42,7 @@ module _ (width : ℕ) where
   -- what goes on is a run before the row's end
   run_is : (at next : Runs) (b rest : List Bool) → row_step width at b ≡ onward next rest
       → (to : ℕ) × (length at.pels ≢ width) × IsRunTo at.colour width (length at.pels) b to rest × (next
-        ≡ runs_to at to)
+      ≡ runs_to at to)
   run_is at next b rest is = by (nat_eq (length at.pels) width) refl is
     where
       by : (test : Bool) → nat_eq (length at.pels) width ≡ test
@@ -69,6 +69,7 @@ module _ (width : ℕ) where
       no_end : (r : Read ℕ RowFault) → EndsAs (step_by (after_run at) r) pels rest → ⊥
       no_end (read to left) same = cc (same)
       no_end (failed fault) same = cc (same)
+
       by : (test : Bool) → nat_eq (length at.pels) width ≡ test
           → EndsAs (cond test (done at.pels b) (step_by (after_run at) (read_run at.colour width (length at.pels) b)))
           pels rest
@@ -105,7 +106,7 @@ module _ (width : ℕ) where
       (more : (at : Runs) (to : ℕ) (b left : List Bool) (pels : List Colour) (rest : List Bool) → length at.pels ≢ width
       → IsRunTo at.colour width (length at.pels) b to left → R (runs_to at to) left pels rest → R at b pels rest) where
     last_run : (at : Runs) (b : List Bool) (pels : List Colour) (rest : List Bool) → row_step width at b
-      ≡ done pels rest
+        ≡ done pels rest
         → R at b pels rest
     last_run at b pels rest is =
         let end = end_is at b pels rest is in
@@ -124,7 +125,7 @@ module _ (width : ℕ) where
 -- of steps, from the first one on
 module _ (reference : List Colour) (P : Position → List Bool → Type 0)
     (kept : (at : Position) (b : List Bool) (new : Position) (rest : List Bool) → IsStep reference at b new rest
-      → P at b
+    → P at b
     → P new rest) where
   abbrev IsReadFrom : Position → List Bool → List Colour → List Bool → Type 0
   IsReadFrom at b pels rest = P at b
@@ -138,7 +139,7 @@ module _ (reference : List Colour) (P : Position → List Bool → Type 0)
   step_before : (at next : Position) (b left : List Bool) (pels : List Colour) (rest : List Bool)
       → coding_step reference at b ≡ onward next left → IsReadFrom next left pels rest → IsReadFrom at b pels rest
   step_before at next b left pels rest is after p = after (kept at b next left (onward_is reference at b next left is)
-    p)
+      p)
 
   pub steps_rule : (at : Position) (b : List Bool) (pels : List Colour) (rest : List Bool)
       → read_steps reference at b ≡ read pels rest → IsReadFrom at b pels rest

@@ -2,8 +2,6 @@
 -- coding is not read on.
 use Rattle.std.proofs.Common.{ℕ, ◌<◌, List, Bool, take, arith}
 use Rattle.std.specs.Prelude.{Result, IfErr}
-use Rattle.std.proofs.lemmas.Grind.{common_steps}
-use Rattle.fax_bits.specs.declared.Colour.{Colour}
 use Rattle.fax_rows.specs.declared.RowFault.{RowFault}
 use Rattle.fax_rows.specs.declared.two_dimensional.horizontal_runs.RowStop.{RowStop}
 use Rattle.fax_rows.specs.code.PlacedReached.{IsReadSoFar}

@@ -153,7 +153,7 @@ module _ (colour : Colour) (width : ℕ) where
       by_step DataEnds (run_step colour width) shortens from b (onward to rest)
       (step_on (by_run_code width from) (ap (map_fault row_fault) is)
       (within_of width (from + n) (onward (from + n) rest) (omega (arith, at, inside))
-        ∙ ap (λ k. onward k rest) (sym at)))
+      ∙ ap (λ k. onward k rest) (sym at)))
 
   pub no_code : (from : ℕ) (b : List Bool) (fault : CodeFault) → read_code (run_table colour) b ≡ failed fault
       → read_run colour width from b ≡ failed (row_fault fault)
@@ -226,7 +226,7 @@ spelled_run colour width from to b [] last rest spelled at inside =
 spelled_run colour width from to b (n ∷ ns) last rest spelled at inside =
     let more : (read_run colour width (from + n) spelled.0 ≡ read to rest) × (length rest < length spelled.0) =
     spelled_run colour width (from + n) to spelled.0 ns last rest spelled.2 (omega (arith, at, sum-cons n ns)) inside
-      in (
+    in (
       goes_on colour width from (from + n) n b spelled.0
           (taken_is_read b (run_table colour) (run_table_is_prefix_free colour) (MakeUp n) spelled.0 spelled.1) refl
           (omega (arith, at, inside, sum-cons n ns))

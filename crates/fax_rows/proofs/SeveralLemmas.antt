@@ -27,7 +27,6 @@ use Rattle.fax_rows.proofs.GoesOnLemmas.{no_step, no_chosen_step, goes_further}
 use Rattle.fax_rows.proofs.UnderLemmas.{step_goes_on}
 use Rattle.fax_rows.proofs.PlacedB1Lemmas.{length-placed_pels, b2_is, b1_at_most}
 use Rattle.fax_rows.proofs.PlacedStepLemmas.{vertical_placed, from_start}
-use Rattle.fax_rows.proofs.StepLemmas.{unfinished_below}
 use Rattle.fax_rows.proofs.TurnLemmas.{alternate-suc}
 use Rattle.fax_rows.proofs.UnderLemmas.{turned_more, so_far_kept, alternate-add}
 

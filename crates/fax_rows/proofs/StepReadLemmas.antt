@@ -1,5 +1,5 @@
 -- Rows in two-dimensional coding as they are read, step by step.
-use Rattle.std.proofs.Common.{arith, ◌≡◌, ◌≢◌, ℕ, zero, suc, ◌+◌, ◌-◌, ◌<◌, ◌≤◌, List, ◌++◌, length, Bool, true, false}
+use Rattle.std.proofs.Common.{arith, ◌≡◌, ◌≢◌, ℕ, ◌+◌, ◌-◌, ◌<◌, ◌≤◌, List, ◌++◌, length, Bool, true, false}
 use Rattle.std.proofs.Common.{cond}
 use Rattle.std.proofs.Common.{refl, ap, sym, subst, ◌∙◌, inl, inr, Option, Some, None, replicate}
 use Rattle.std.specs.Prelude.{unwrap_or, ℤ, pos, negsuc, ◌+ℤ◌, ◌<ℤ◌, ◌≤ℤ◌, nat_abs, int_lt, int_le, ◌&&◌}
@@ -70,7 +70,7 @@ test_in_row reference old d is =
 
 vertical_read : (reference : List Colour) (old : Position) (z : ℤ) (rest : List Bool) → is_in_row reference old z ≡ true
     → vertical_step reference old z rest ≡ read (record (coloured_up_to old (nat_abs z)) { colour = other old.colour })
-      rest
+    rest
 vertical_read reference old z rest is = rw (is) refl
 
 vertical_fails : (reference : List Colour) (old : Position) (z : ℤ) (rest : List Bool) → is_in_row reference old z
@@ -151,8 +151,8 @@ vertical_is reference at d b new rest is = by (is_in_row reference at (a1_at ref
   where
     by : (test : Bool) → is_in_row reference at (a1_at reference at d) ≡ test
         → IsReadAs (cond test
-            (read (record (coloured_up_to at (nat_abs (a1_at reference at d))) { colour = other at.colour }) b)
-            (failed OutOfRow)) new rest
+        (read (record (coloured_up_to at (nat_abs (a1_at reference at d))) { colour = other at.colour }) b)
+        (failed OutOfRow)) new rest
         → IsVerticalStep reference at d new × (b ≡ rest)
     by true there same =
         let in_row = test_in_row reference at d there in
@@ -239,6 +239,7 @@ done_is reference at b pels rest is = by (is_ended reference at.a0) refl is
     no_end : (r : Read Position RowFault) → EndsAs (step_by onward r) pels rest → ⊥
     no_end (read new left) same = cc (same)
     no_end (failed fault) same = cc (same)
+
     by : (test : Bool) → is_ended reference at.a0 ≡ test
         → EndsAs (cond test (done at.pels b) (step_by onward (read_step reference at b))) pels rest
         → (at.a0 ≡ Some (length reference)) × (pels ≡ at.pels) × (b ≡ rest)
@@ -269,7 +270,7 @@ module _ (reference : List Colour) where
       → read_steps reference at b ≡ read at.pels b
   ended at b end =
       by_step DataEnds (coding_step reference) shortens at b (done at.pels b) (rw (is_ended_of reference at.a0 end)
-        refl)
+      refl)
 
   pub stops : (at : Position) (b : List Bool) (fault : RowFault)
       → at.a0 ≢ Some (length reference) → IsStepFault reference at b fault → read_steps reference at b ≡ failed fault

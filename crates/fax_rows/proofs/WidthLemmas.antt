@@ -1,16 +1,15 @@
 -- A row that is read has its width.
-use Rattle.std.proofs.Common.{◌≡◌, ℕ, ◌+◌, ◌-◌, ◌≤◌, List, [], ◌∷◌, ◌++◌, length, replicate, Bool, Option, Some, refl}
+use Rattle.std.proofs.Common.{◌≡◌, ℕ, ◌-◌, ◌≤◌, List, [], ◌++◌, length, replicate, Bool, Option, Some, refl}
 use Rattle.std.proofs.Common.{ap, sym, ◌∙◌}
-use Rattle.std.proofs.Common.{subst, arith, pos, negsuc, ◌≤ℤ◌, ◌<ℤ◌, None, length-append}
+use Rattle.std.proofs.Common.{arith, pos, negsuc, ◌≤ℤ◌, ◌<ℤ◌, None, length-append}
 use Rattle.std.specs.Prelude.{unwrap_or}
-use Rattle.std.proofs.lemmas.Grind.{common_steps}
 use Rattle.std.proofs.lemmas.Int.{ints}
 use Rattle.std.proofs.lemmas.List.{length-replicate}
 use Rattle.fax_bits.specs.declared.Colour.{Colour}
 use Rattle.fax_bits.specs.declared.Colour.TheVariants.{White}
 use Rattle.fax_bits.specs.declared.mode_codes.ModeCode.{ModeCode}
 use Rattle.fax_bits.specs.declared.mode_codes.ModeCode.TheVariants.{Pass, Horizontal, Vertical, Extension}
-use Rattle.fax_rows.specs.Rows.{other, b1, b2, Position, beginning, first_pel}
+use Rattle.fax_rows.specs.Rows.{b1, b2, Position, beginning, first_pel}
 use Rattle.fax_rows.specs.code.CodingSteps.{IsStepBy}
 use Rattle.fax_rows.proofs.RowRuleLemmas.{runs_rule, steps_rule}
 use Rattle.fax_rows.specs.laws.Rows.{RowsHaveTheirWidth}

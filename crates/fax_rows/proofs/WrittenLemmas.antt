@@ -15,7 +15,7 @@ use Rattle.fax_bits.specs.Written.{mode_bits}
 use Rattle.fax_bits.specs.Tables.{modes}
 use Rattle.fax_rows.specs.Rows.{other, pels_of, runs_after, runs_of, Position}
 use Rattle.fax_rows.specs.laws.Rows.{HasWidth}
-use Rattle.fax_rows.specs.Coded.{step_bits, two_dimensional_bits, alternating_bits, one_dimensional_bits}
+use Rattle.fax_rows.specs.Coded.{step_bits, two_dimensional_bits, alternating_bits}
 use Rattle.fax_rows.specs.code.Choice.{places, colour_of, chosen_mode, run_pair_bits, next_a0}
 use Rattle.fax_rows.proofs.ChangeLemmas.{first_of}
 use Rattle.fax_rows.proofs.RowLaws.{length-pels_of}

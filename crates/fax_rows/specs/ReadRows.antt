@@ -2,7 +2,7 @@
 -- (T.4, sections 4.1.1 and 4.2.1.3.1 to 4.2.1.3.4; T.6, sections 2.2.2 to 2.2.5; the faults are
 -- this project's profile). Each code takes one bit at least, so that the steps come to an end.
 use Rattle.std.specs.Prelude.{ℕ, ◌+◌, ◌-◌, nat_lt, nat_eq, ℤ, pos, ◌+ℤ◌, nat_abs, int_lt, int_le}
-use Rattle.std.specs.Prelude.{Bool, true, false, ◌&&◌, if◌then◌else◌, List, [], ◌++◌, length}
+use Rattle.std.specs.Prelude.{Bool, false, ◌&&◌, if◌then◌else◌, List, [], ◌++◌, length}
 use Rattle.std.specs.Prelude.{replicate, Option, Some, None}
 use Rattle.fax_bits.specs.Codes.{read_code}
 use Rattle.fax_bits.specs.Reading.{Read, read, failed, ◌>>=◌, map_fault}

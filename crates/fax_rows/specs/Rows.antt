@@ -1,14 +1,10 @@
 -- Rows of pels, from left to right, and how bits code them in one and in two dimensions
 -- (T.4, sections 4.1.1 and 4.2.1.3.1 to 4.2.1.3.4; T.6, sections 2.2.2 to 2.2.5). The sections
 -- below are those of T.4. 'Ours' is this project's profile.
-use Rattle.std.specs.Prelude.{◌≡◌, ◌≢◌, ℕ, zero, suc, ◌+◌, ◌-◌, ◌<◌, ◌≤◌, nat_lt, ℤ, pos, negsuc}
-use Rattle.std.specs.Prelude.{◌+ℤ◌, ◌<ℤ◌, ◌≤ℤ◌, Bool, true, false, not, ◌&&◌, if◌then◌else◌, List}
+use Rattle.std.specs.Prelude.{ℕ, zero, suc, ◌+◌, ◌-◌, nat_lt, ℤ, pos, negsuc}
+use Rattle.std.specs.Prelude.{Bool, true, false, not, ◌&&◌, if◌then◌else◌, List}
 use Rattle.std.specs.Prelude.{[], ◌∷◌, ◌++◌, length, replicate, slice_index_or, Option}
 use Rattle.std.specs.Prelude.{Some, None, unwrap_or}
-use Rattle.fax_bits.specs.declared.mode_codes.ModeCode.TheVariants.{Pass, Horizontal, Vertical}
-use Rattle.fax_bits.specs.declared.mode_codes.ModeCode.TheVariants.{Extension}
-use Rattle.fax_bits.specs.Tables.{modes}
-use Rattle.fax_bits.specs.Codes.{IsRun, Takes}
 pub use Rattle.fax_bits.specs.declared.Colour.{Colour}
 pub use Rattle.fax_bits.specs.declared.Colour.TheVariants.{White, Black}
 pub use Rattle.fax_bits.specs.declared.mode_codes.ModeCode.{ModeCode}

@@ -2,9 +2,7 @@
 -- A definition without a citation is this project's profile.
 use Rattle.std.specs.Prelude.{ℕ, ◌+◌, ◌≤◌, ◌⊎◌, Bool, List, length}
 use Rattle.fax_bits.specs.declared.Colour.{Colour}
-use Rattle.fax_bits.specs.declared.run_codes.RunCode.{RunCode}
-use Rattle.fax_bits.specs.Tables.{run_table}
-use Rattle.fax_bits.specs.Codes.{IsRun, Takes}
+use Rattle.fax_bits.specs.Codes.{IsRun}
 use Rattle.fax_rows.specs.declared.RowFault.{RowFault}
 use Rattle.fax_rows.specs.Rows.{Position, first_pel, other}
 use Rattle.fax_rows.specs.code.CodingSteps.{IsRunFault}

@@ -85,7 +85,7 @@ loop-runs-preserved c =
     record {
       colour = Black;
       read = read_on (white_read so_far.read (so_far.white c.loop-runs-test.true) same) c.loop-runs-test.true first.read
-        first.right
+          first.right
           first.put.within first.turned first.chosen;
       white = λ h. absurd (omega arith);
       same_end = omega (arith, first.same_end, so_far.same_end, ap (λ (s : Source). s.place + length s.left) same);

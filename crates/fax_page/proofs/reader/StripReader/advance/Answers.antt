@@ -14,12 +14,12 @@ invariant_of-self c =
       within = search rules;
       placed =
           placed_after c.self.inside.form _ _ _ _ _ _ _ _ count c.self.invariant.placed (c.self.invariant.at_row
-            c.in_default.is)
+          c.in_default.is)
           c.in-Ok.ensures.ok
           c.in-Ok.ensures.same_end c.place-self-inside.ensures (c.lines_are_read_in_one_way.ensures _ _ _);
       at_row = λ none.
           row_after c.self.inside.form _ _ _ _ _ _ _ _ count c.self.invariant.placed (c.self.invariant.at_row none)
-            c.in-Ok.ensures.ok
+          c.in-Ok.ensures.ok
           c.in-Ok.ensures.same_end c.place-self-inside.ensures (c.lines_are_read_in_one_way.ensures _ _ _);
     }
 
@@ -33,7 +33,7 @@ returns-in-Ok c =
       no_fault = search rules;
       due = search rules;
       line = line_between c.self.inside.form _ _ _ _ _ _ _ _ count c.self.invariant.placed here ok same_end
-        c.place-self-inside.ensures
+          c.place-self-inside.ensures
           (c.lines_are_read_in_one_way.ensures _ _ _);
       next_row = search rules;
       read = search rules;
