@@ -134,6 +134,41 @@ def merged(room: Room, *_given: object) -> None:
     room.claim("a merged table follows its faxes", (ran.status, len(set(files_below(f"{place}/copies").values()))), (0, 1))
 
 
+def merged_deletions(room: Room, *_given: object) -> None:
+    """What the parts of an array have deleted is counted by the table that is merged of them, however often it is."""
+    one, _ = two()
+    place = room("merged-deletions")
+    for name in "abcdefgh":
+        put(f"{place}/tree/{name}.tif", one)
+    parts_of = [f"{place}/{part}.sqlite" for part in (0, 1)]
+    deleted = []
+    for part, table in enumerate(parts_of):
+        words = words_of(place, "--share", f"{part}/2", "--delete")
+        words[words.index(f"{place}/t.sqlite")] = table
+        playing.run(words, place, playing.Trouble())
+        deleted.append(json.loads(room.run("table", table, "--summary")[1])["deleted"])
+    room.claim("the parts delete all", (sum(deleted), all(deleted), os.listdir(f"{place}/tree")), (8, True, []))
+    for _ in range(2):
+        status, _, error = room.run("merge", f"{place}/t.sqlite", *parts_of)
+        told = json.loads(room.run("table", f"{place}/t.sqlite", "--summary")[1])
+        room.claim(f"deletions are merged: {error}", (status, told["faxes"], told["deleted"]), (0, 0, 8))
+    about_to_be_merged(room, place, parts_of)
+
+
+def about_to_be_merged(room: Room, place: str, parts_of: list[str]) -> None:
+    """A fax that a part was only about to delete is not counted, until the part knows that it is gone."""
+    with contextlib.closing(sqlite3.connect(parts_of[0])) as base:
+        base.execute("INSERT INTO deleted SELECT 'late.tif', size, mtime, digest, 0 FROM deleted LIMIT 1")
+        base.commit()
+    for deleted, wanted in ((0, 8), (1, 9), (0, 9)):
+        with contextlib.closing(sqlite3.connect(parts_of[0])) as base:
+            base.execute("UPDATE deleted SET deleted = ? WHERE path = 'late.tif'", (deleted,))
+            base.commit()
+        room.run("merge", f"{place}/t.sqlite", *parts_of)
+        told = json.loads(room.run("table", f"{place}/t.sqlite", "--summary")[1])
+        room.claim(f"about to be deleted, {deleted}", told["deleted"], wanted)
+
+
 def target_goes(room: Room, *_given: object) -> None:
     """TARGET goes at each call of a run that deletes: all faxes that are left then stay, but for one, whose copy went in
     the instant after the last look at it, which is two calls of the system."""
@@ -326,4 +361,5 @@ def figures(room: Room, *_given: object) -> None:
         print("SKIPPED: promtool (prometheus) is not installed, so: it does not read the figures of an archive")
 
 
-PARTS: list[Part] = [parts, figures, foreign, backup, adopted, merged, target_goes, other_names, linked, odd]
+PARTS: list[Part] = [parts, figures, foreign, backup, adopted, merged, merged_deletions, target_goes, other_names, linked,
+                     odd]  # fmt: skip

@@ -88,9 +88,13 @@ def _lacking(parts: List[Table], shares: List[walk.Share]) -> List[str]:
 
 
 def _take(table: Table, parts: List[Table]) -> Set[bytes]:
-    """Takes over the rows of parts, but where a newer one is here. The paths of all faxes of the parts."""
+    """Takes over the rows of parts, but where a newer one is here, and what was deleted. The paths of all faxes of the
+    parts."""
     there: Set[bytes] = set()
     for part in parts:
+        deletions = part.deletions()
+        while some := list(itertools.islice(deletions, _BATCH)):
+            table.put_deletions(some)
         looks = part.looks()
         while batch := list(itertools.islice(looks, _BATCH)):
             table.put_looks([(row, look, copy) for row, look, copy in batch

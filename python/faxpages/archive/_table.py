@@ -479,6 +479,22 @@ class Table:
                                ((time.time(), kept_path(path)) for path in paths))
         self.commit_all()
 
+    def deletions(self) -> Iterator[Tuple[Any, ...]]:
+        """The faxes that were deleted, or were about to be: the values of their rows."""
+        return self._base.execute("SELECT path, size, mtime, digest, deleted FROM deleted")
+
+    def put_deletions(self, rows: List[Tuple[Any, ...]]) -> None:
+        """Takes over deletions that another table knows. Of one fax the later one counts; of one that was only about to
+        be deleted the time is 0."""
+        self.begin()
+        for path, size, mtime, digest, deleted in rows:
+            fax = (path, size, mtime)
+            self._base.execute(
+                "DELETE FROM deleted WHERE path = ? AND size IS ? AND mtime IS ? AND deleted < ?", (*fax, deleted))
+            self._base.execute(
+                "INSERT INTO deleted SELECT ?1, ?2, ?3, ?4, ?5 WHERE NOT EXISTS "
+                "(SELECT 1 FROM deleted WHERE path = ?1 AND size IS ?2 AND mtime IS ?3)", (*fax, digest, deleted))
+
     def wait(self, fax: Waiting) -> None:
         """Notes that a fax is due. It is kept outside the table, and goes with this process."""
         self._base.execute("INSERT INTO waiting VALUES (?, ?, ?, ?, ?, ?)", fax)
