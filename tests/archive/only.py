@@ -13,11 +13,11 @@ import shutil
 import sqlite3
 import subprocess
 from unittest import mock
-from typing import Iterator
+from typing import Callable, Iterator
 
 from tests.archive.converting import files_below
 from tests.archive.drawn import going, playing
-from tests.archive.keeping import CALLS, drawn, put
+from tests.archive.keeping import CALLS, TIME, drawn, put
 from tests.archive.room import Part, Room
 
 # At two calls for each of three faxes, TARGET gone and renamed, a fax may go with its copy.
@@ -290,6 +290,70 @@ def not_deleted(room: Room, one: bytes) -> None:
     killed_amid(room, one)
 
 
+def staying(room: Room, *_given: object) -> None:
+    """What is not deleted stays in the table, as what it is, with the reason, and is done again; what has gone
+    otherwise has no row. What goes later needs no --gone."""
+    one, other = two()
+    place = room("staying")
+    tree, copies, table = f"{place}/tree", f"{place}/copies", f"{place}/t.sqlite"
+    cases = {"NotDeleted: Read-only file system": lambda: None, "NoMark: Read-only file system": lambda: None,
+             "Changed": lambda: put(f"{tree}/b.tif", other), "NoCopy": lambda: os.unlink(f"{copies}/b.tif"),
+             "": lambda: os.unlink(f"{tree}/b.tif")}  # fmt: skip
+    for why, happens in cases.items():
+        shutil.rmtree(place, ignore_errors=True)
+        for name in "ab":
+            put(f"{tree}/{name}.tif", one, mtime=TIME)
+        with not_going(why.partition(":")[0], happens):
+            ran = playing.run(words_of(place, "--delete"), place, playing.Trouble())
+        told = json.loads(room.run("table", table, "--summary")[1])
+        wanted = [int(bool(why)), int(bool(why)), 1, True]
+        room.claim(f"what stays, {why!r}: {ran.error}", (
+            ran.status, [told[it] for it in ("faxes", "good", "deleted", "finished")]), (3, wanted))  # fmt: skip
+        rows = {os.path.basename(path): (row["status"], row["why"]) for path, row in room.rows(table).items()}
+        room.claim(f"what stays, {why!r}: its row", rows, {b"b.tif": ("0", why)} if why else {})
+        went_later(room, why, place)
+
+
+def went_later(room: Room, why: str, place: str) -> None:
+    """The run after one that could not delete a fax does it again; or counts it, where somebody deleted it."""
+    words = [it for it in words_of(place) if it != "--gone"]
+    if why.startswith("Not"):
+        os.unlink(f"{place}/tree/b.tif")
+    ran = playing.run(words, place, playing.Trouble())
+    told = json.loads(room.run("table", f"{place}/t.sqlite", "--summary")[1])
+    wanted = {"NoMark": (0, 1, 1), "NoCopy": (0, 1, 1), "Changed": (3, 1, 1)}.get(why.partition(":")[0], (0, 0, 2))
+    room.claim(f"after {why!r}: {ran.error}", (ran.status, told["faxes"], told["deleted"]), wanted)
+    whys = [row["why"] for row in room.rows(f"{place}/t.sqlite").values()]
+    said = {"Changed": ["the only copy of a fax that is gone"], "NoMark": [""], "NoCopy": [""]}
+    room.claim(f"after {why!r}: its row", whys, said.get(why.partition(":")[0], []))
+
+
+@contextlib.contextmanager
+def not_going(why: str, happens: Callable[[], object]) -> Iterator[None]:
+    """Has the fax b.tif not be deleted by a run that is begun now, for this reason, or have something happen right
+    before it is to be."""
+    unlink, setxattr, sync = os.unlink, os.setxattr, os.sync
+    refused = OSError(errno.EROFS, os.strerror(errno.EROFS))
+
+    def refuse(path: bytes, dir_fd: int | None = None) -> None:
+        if why == "NotDeleted" and path == b"b.tif":
+            raise refused
+        unlink(path, dir_fd=dir_fd)
+
+    def refuse_mark(file: int, attribute: str, value: bytes) -> None:
+        if why == "NoMark" and attribute.endswith("only") and os.readlink(f"/proc/self/fd/{file}").endswith("b.tif"):
+            raise refused
+        setxattr(file, attribute, value)
+
+    def happen() -> None:
+        happens()
+        sync()
+
+    with mock.patch.object(os, "unlink", refuse), mock.patch.object(os, "setxattr", refuse_mark), (
+            mock.patch.object(os, "sync", happen)):  # fmt: skip
+        yield
+
+
 def killed_amid(room: Room, one: bytes) -> None:
     """Faxes that were deleted by a run that was killed then are counted by the next one."""
     place = room("killed-amid")
@@ -362,4 +426,4 @@ def figures(room: Room, *_given: object) -> None:
 
 
 PARTS: list[Part] = [parts, figures, foreign, backup, adopted, merged, merged_deletions, target_goes, other_names, linked,
-                     odd]  # fmt: skip
+                     odd, staying]  # fmt: skip

@@ -101,6 +101,8 @@ class Run:
         # When hard links of a fax that is deleted changed, and to which faxes a link leads that stays.
         self._links = files.Links()
         self._linked: Set[Tuple[int, int]] = set()
+        # Why faxes stay that were to be deleted.
+        self._whys: Dict[bytes, str] = {}
         self._run_words = json.dumps([words.again, bool(job.fields)] + (["lost"] if job.lost else []))
         self._number = table.next_run(words.command, self._run_words)
 
@@ -109,7 +111,9 @@ class Run:
         before = self._table.count()
         rows_seen, empty = self._note()
         unseen = [] if self._failed else list(self._table.unseen(rows_seen))
-        refused = self._refused(before, len(unseen), empty)
+        # A fax that stayed though it was to be deleted may go later.
+        gone = set(unseen).difference(self._table.about_to_be_deleted())
+        refused = self._refused(before, len(gone), empty)
         if refused:
             say(f"{refused}; nothing is changed (--gone allows it)")
             return NOT_READ
@@ -190,10 +194,10 @@ class Run:
             self._changed += not same
             if same and not self._is_asked(fax.path, known) and self._is_copied(fax.path, known, copied):
                 return None
-        if self._target is not None and known is None and self._table.was_deleted(fax):
-            # It was about to be deleted when a run was killed: its copy is ours, if it is this one.
-            return fax._replace(copy=files.NOT_KEPT, fields=files.NOT_KEPT)
         if copied is None:
+            if self._target is not None and self._table.was_deleted(fax):
+                # It was about to be deleted, and is there: its copy is ours, if it is this one.
+                return fax._replace(copy=files.NOT_KEPT, fields=files.NOT_KEPT)
             return fax
         copy, fields = copied.known()
         proven = same and known is not None and known.status == GOOD and self._words.again != "all" and bool(copy)
@@ -348,7 +352,8 @@ class Run:
     def _delete_some(self, batch: List[Compared]) -> Tuple[int, int, int]:
         """Deletes some faxes: how many are deleted, how many are not, and how many stand outside. Their rows go first,
         since a row that is left would have the next fax of this name be written over the copy. Then the copies are marked
-        as the only ones; and right before a fax goes its copy is looked at once more."""
+        as the only ones; and right before a fax goes its copy is looked at once more. The row of one that stays is put
+        back, and says why."""
         tree = files.root_of(self._job.tree)
         ready: List[Compared] = []
         outside = 0
@@ -361,16 +366,24 @@ class Run:
                 ready.append(it)
             elif why != "OutsideTree":
                 self._keep(it, why)
-        self._table.forget_deleted([it.path for it in ready])
+        rows = self._table.forget_deleted([it.path for it in ready])
         marked = [it for it in ready if self._is_marked(it)]
         # Now all copies are on the disk, with their marks and the folders that they stand in.
         os.sync()
         gone = [it.path for it in marked if self._is_gone(tree, it)]
         self._table.are_deleted(gone)
+        if self._whys:
+            self._table.stay([row for row in rows if self._is_left(row[0].path)], self._whys)
+            self._whys.clear()
         return len(gone), len(batch) - len(gone) - outside, outside
 
+    def _is_left(self, path: bytes) -> bool:
+        """Whether a fax stays that was to be deleted, and has not gone otherwise."""
+        return path in self._whys and os.path.lexists(os.path.join(self._job.tree, path))
+
     def _keep(self, it: Compared, why: str) -> None:
-        """Says why a fax is not deleted, and notes what a link leads to that stays."""
+        """Says why a fax is not deleted, for the table too, and notes what a link leads to that stays."""
+        self._whys[it.path] = why
         name, _, more = why.partition(": ")
         say(f"{name}: {shown(it.path)}" + (f": {more}" if more else ""))
         if it.depth:

@@ -455,10 +455,11 @@ class Table:
         for name in ("faxes", "times", "copies"):
             self._base.executemany(f"DELETE FROM {name} WHERE path = ?", kept)
 
-    def forget_deleted(self, paths: List[bytes]) -> None:
+    def forget_deleted(self, paths: List[bytes]) -> List[Tuple[Found, Look]]:
         """Takes out the rows of faxes that are about to be deleted, and keeps their sizes and times. Committed. The time
-        of their deletion is 0 until it is known that they are gone."""
+        of their deletion is 0 until it is known that they are gone. The rows, to be put back where a fax stays."""
         self.begin()
+        rows = [row for path in paths for row in self._row(path)]
         self._base.executemany(
             "DELETE FROM deleted WHERE (path, size, mtime) IN (SELECT path, size, mtime FROM faxes WHERE path = ?)",
             ((kept_path(path),) for path in paths))
@@ -466,6 +467,22 @@ class Table:
             "INSERT INTO deleted SELECT path, faxes.size, faxes.mtime, digest, ? FROM faxes JOIN copies USING (path) "
             "WHERE path = ?", ((0, kept_path(path)) for path in paths))
         self.forget(paths)
+        self.commit_all()
+        return rows
+
+    def _row(self, path: bytes) -> Iterator[Tuple[Found, Look]]:
+        """The row of a fax, if there is one, with the look at it."""
+        names = ", ".join(COLUMNS[1:])
+        query = f"SELECT since, checked, run, origin, {names} FROM faxes JOIN times USING (path) WHERE path = ?"
+        for row in self._base.execute(query, (kept_path(path),)):
+            yield Found(path, *row[4:]), Look(*row[:4])
+
+    def stay(self, rows: List[Tuple[Found, Look]], whys: Dict[bytes, str]) -> None:
+        """Puts back the rows of faxes that were about to be deleted and stay, and notes why faxes stay. What was
+        known of the copies is not put back: they may be marked as the only ones, and are looked at anew. Committed."""
+        self._put(rows)
+        self._base.executemany("UPDATE faxes SET why = ? WHERE path = ?",
+                               ((why, kept_path(path)) for path, why in whys.items()))
         self.commit_all()
 
     def about_to_be_deleted(self) -> List[bytes]:

@@ -10,7 +10,7 @@ from typing import TYPE_CHECKING, Dict, List, Optional, Set, Tuple
 
 from tests.archive.drawn.contents import Verdict, digest
 from tests.archive.drawn.model import (
-    GOOD, NOT_READ, Fax, Job, Stood, Words, deleted_in, rows_of, see, status_of, where_in,
+    GOOD, NOT_READ, Fax, Job, Stood, Words, about_to_go, deleted_in, rows_of, see, status_of, where_in,
 )
 from tests.archive.drawn.playing import Ran, Trouble
 from tests.archive.drawn.world import Entry, World, folded, snapshot
@@ -32,6 +32,7 @@ class Before:
             self.target = {folded(name): entry for name, entry in self.target.items()}
         self.rows, self.last = rows_of(os.path.join(os.fsdecode(world.tables), job.table))
         self.deleted = deleted_in(os.path.join(os.fsdecode(world.tables), job.table))
+        self.about_to_go = about_to_go(os.path.join(os.fsdecode(world.tables), job.table))
         self.where = where_in(os.path.join(os.fsdecode(world.tables), job.table))
         self.seen = see(world, job, other_user)
 
@@ -133,7 +134,7 @@ class Comparison:
         if self.words.gone:
             return None
         faxes = self._share()
-        gone = 0 if seen.failed else len(set(before.rows) - set(faxes))
+        gone = 0 if seen.failed else len(set(before.rows) - set(faxes) - before.about_to_go)
         if not seen.faxes and not before.rows and not seen.failed and not before.deleted:
             return 3
         if gone * 10 > len(before.rows):
@@ -288,9 +289,11 @@ class Comparison:
             # The copy of a fax that is gone is marked as the only one before its row goes.
             for path in (set(self.before.rows) & set(self.after.rows)) - set(self.after.tree):
                 maybe.update(job.copies_of(path))
-        # A fax that was about to be deleted and stays has no row, and its copy is marked as the only one.
+        # A fax that was about to be deleted and stays has no row, or one that says so, and its copy is marked as the
+        # only one.
         stays = set(self._share()) if self.words.delete else set[bytes]()
-        for path in (set(self.before.rows) | deleted | stays) - set(self.after.rows):
+        noted = {path for path, row in self.after.rows.items() if not row.stays}
+        for path in (set(self.before.rows) | deleted | stays) - noted:
             for name in job.copies_of(path):
                 # Where case is folded, it may be the copy of one that stays.
                 stay = job.folds and any(name in job.copies_of(it) for it in self.after.rows)
@@ -361,7 +364,7 @@ class Comparison:
             if self._is_sure(path):
                 wanted = self.outcomes[path]
                 self.claim(row.verdict == wanted, f"{path!r}: {row.verdict}, wanted {wanted}{self._about(path)}")
-            if row.verdict.status == GOOD:
+            if row.verdict.status == GOOD and not row.stays:
                 self._note_good(path, fax)
         for path in set(self.before.rows) - set(self.after.rows):
             self.claim(path not in faxes or self.words.delete, f"a row is lost: {path!r}")

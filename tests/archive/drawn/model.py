@@ -59,13 +59,15 @@ class Fax(NamedTuple):
 
 
 class Row(NamedTuple):
-    """A row of a table, and which run wrote it."""
+    """A row of a table, which run wrote it, and whether it is of a fax that stays though it was to be deleted, so that
+    the table knows of no copy."""
 
     size: int
     mtime: float
     verdict: Verdict
     lacks: Optional[str]
     run: int
+    stays: bool = False
 
 
 class Stood(NamedTuple):
@@ -149,13 +151,14 @@ def rows_of(table: str) -> Table:
     with contextlib.closing(sqlite3.connect(table)) as base:
         try:
             found = base.execute(
-                "SELECT CAST(path AS BLOB), size, mtime, status, fault, fault_page, fault_row, fault_tag, lacks, run "
+                "SELECT CAST(path AS BLOB), size, mtime, status, fault, fault_page, fault_row, fault_tag, lacks, run, "
+                "status = 0 AND why IS NOT NULL AND path NOT IN (SELECT path FROM copies) "
                 "FROM faxes JOIN times USING (path)").fetchall()
             last = base.execute("SELECT number, words, ended IS NOT NULL AND NOT unread, ended IS NOT NULL FROM runs "
                                 "ORDER BY number DESC LIMIT 1").fetchone()
         except sqlite3.OperationalError:
             return {}, None
-    rows = {row[0]: Row(row[1], row[2], Verdict(*row[3:8]), row[8], row[9]) for row in found}
+    rows = {row[0]: Row(row[1], row[2], Verdict(*row[3:8]), row[8], row[9], bool(row[10])) for row in found}
     return rows, last
 
 
@@ -168,6 +171,17 @@ def deleted_in(table: str) -> int:
             return int(base.execute("SELECT count(*) FROM deleted").fetchone()[0])
         except sqlite3.OperationalError:
             return 0
+
+
+def about_to_go(table: str) -> Set[bytes]:
+    """The faxes of which a table says that they were to be deleted, and not that they are gone."""
+    if not os.path.exists(table):
+        return set()
+    with contextlib.closing(sqlite3.connect(table)) as base:
+        try:
+            return {path for (path,) in base.execute("SELECT CAST(path AS BLOB) FROM deleted WHERE deleted = 0")}
+        except sqlite3.OperationalError:
+            return set()
 
 
 def where_in(table: str) -> Optional[bytes]:
