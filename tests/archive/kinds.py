@@ -88,16 +88,22 @@ def kept(room: Room, said: dict[str, str]) -> None:
     room.claim("other kinds: they are not copied", there, (before, ["good.tif"]))
 
 
-def older(room: Room, check: list[str], rows: dict[str, dict[str, str]]) -> None:
-    """A table of version 1.5, which called them faulty, is read, and goes on."""
-    with contextlib.closing(sqlite3.connect(room("kinds/t.sqlite"))) as base:
+def make_older(table: str) -> None:
+    """Makes a table as version 1.5 wrote it."""
+    with contextlib.closing(sqlite3.connect(table)) as base:
         base.execute("ALTER TABLE faxes RENAME TO new")
         base.execute(f"CREATE TABLE faxes ({OLD.replace('path', 'path PRIMARY KEY NOT NULL', 1)})")
         base.execute(f"INSERT INTO faxes SELECT {OLD} FROM new")
         base.execute("UPDATE faxes SET status = 1, why = NULL WHERE status = 2")
         base.execute("DROP TABLE new")
+        base.execute("DELETE FROM job WHERE name IN ('only', 'parts')")
         base.execute("PRAGMA user_version = 2")
         base.commit()
+
+
+def older(room: Room, check: list[str], rows: dict[str, dict[str, str]]) -> None:
+    """A table of version 1.5, which called them faulty, is read, and goes on."""
+    make_older(room("kinds/t.sqlite"))
     wanted = {name: "2" if row["status"] == "2" and name != "tiles" else row["status"].replace("2", "1")
               for name, row in rows.items()}
     for way in ("as it stands", "brought up to date"):

@@ -453,6 +453,26 @@ def disown(target: Root, relative: bytes, owner: Owner, stood: Optional[Stood]) 
             raise
 
 
+def mark_left(target: Root, relative: bytes, owner: Owner, mtime: Optional[float],
+              digest: Optional[str]) -> Optional[str]:
+    """Marks what is left in the place of the copy of a fax as the only one, unless it is marked so: if it has the time
+    of the fax, as copies have, or this digest, or is ours by its mark. Why it cannot be marked, or read, if so."""
+    try:
+        with target.place(relative) as place, opened(place) as file:
+            if file is None or is_only(place, file):
+                return None
+            mark = mark_of(file)
+            ours = mark is not None and mark.is_of(owner, name_of(relative))
+            if ours or os.fstat(file).st_mtime == mtime or (digest is not None and digest_of(file) == digest):
+                put_only(place, file, owner)
+            return None
+    except NotOurs as error:
+        there = target.look(relative)
+        return str(error) if there is not None and stat.S_ISREG(there.st_mode) else None
+    except OSError as error:
+        return None if error.errno in (errno.ENOENT, errno.ENOTDIR, errno.ELOOP) else error.strerror
+
+
 def _is_known(file: int, relative: bytes, owner: Owner, stood: Optional[Stood]) -> bool:
     """Whether a copy is ours by its mark; without one, whether it is as the table knows it."""
     mark, told = mark_of(file), os.fstat(file)

@@ -92,6 +92,8 @@ def _take(table: Table, parts: List[Table]) -> Set[bytes]:
     parts."""
     there: Set[bytes] = set()
     for part in parts:
+        if not part.are_marked():
+            table.set_marked(False)
         deletions = part.deletions()
         while some := list(itertools.islice(deletions, _BATCH)):
             table.put_deletions(some)

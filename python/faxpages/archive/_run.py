@@ -95,7 +95,7 @@ class Run:
     def __init__(self, words: argparse.Namespace, job: Job, table: Table) -> None:
         self._words, self._job, self._table = words, job, table
         self._counts = {GOOD: 0, FAULTY: 0, OTHER: 0, NOT_READ: 0}
-        self._kept = self._due = self._gone = self._failed = self._changed = 0
+        self._kept = self._due = self._gone = self._failed = self._changed = self._unmarked = 0
         self._began = time.monotonic()
         self._target = job.target_root() if job.target is not None else None
         # When hard links of a fax that is deleted changed, and to which faxes a link leads that stays.
@@ -118,6 +118,7 @@ class Run:
             say(f"{refused}; nothing is changed (--gone allows it)")
             return NOT_READ
         self._settle()
+        self._mark_left()
         self._forget(unseen)
         self._begin()
         self._do_all()
@@ -150,6 +151,25 @@ class Run:
         if not self._failed and self._target is not None:
             self._table.are_deleted([path for path in self._table.about_to_be_deleted()
                                      if not os.path.lexists(os.path.join(self._job.tree, path))])
+
+    def _mark_left(self) -> None:
+        """Marks the copies of faxes that a version before 1.6 deleted as the only ones, once for each table. Where one
+        cannot be marked it is told, and tried again by the next run."""
+        if self._target is None or self._table.are_marked():
+            return
+        looked = False
+        for path, mtime, digest in self._table.left_copies():
+            looked, name = True, self._job.copy_of(path)
+            for each, known in ((name, digest), (name + FIELDS, None)):
+                why = files.mark_left(self._target, each, self._job.owner, mtime, known)
+                if why is not None:
+                    self._unmarked += 1
+                    say(f"NoMark: {shown(each)}: {why}")
+        if looked:
+            # The marks are on the disk before it is noted.
+            os.sync()
+        if not self._unmarked:
+            self._table.set_marked(True)
 
     def _begin(self) -> None:
         """Notes in the table that this run is at work."""
@@ -295,7 +315,7 @@ class Run:
         print(state_of(self._table))
 
     def _status(self) -> int:
-        if self._failed or self._counts[NOT_READ]:
+        if self._failed or self._unmarked or self._counts[NOT_READ]:
             return NOT_READ
         return FAULTY if self._counts[FAULTY] + self._counts[OTHER] else GOOD
 

@@ -496,6 +496,26 @@ class Table:
                                ((time.time(), kept_path(path)) for path in paths))
         self.commit_all()
 
+    def are_marked(self) -> bool:
+        """Whether all copies of faxes that were deleted are known to be marked as the only ones, as versions before 1.6
+        did not mark them."""
+        return self._value("only") is not None
+
+    def set_marked(self, marked: bool) -> None:
+        """Notes whether they are."""
+        self.begin()
+        self._base.execute("DELETE FROM job WHERE name = 'only'")
+        if marked:
+            self._base.execute("INSERT INTO job VALUES ('only', 'marked')")
+
+    def left_copies(self) -> Iterator[Tuple[bytes, Optional[float], Optional[str]]]:
+        """The faxes that were deleted and have no copy of their own again: the path of each, its time, and the digest
+        of its copy."""
+        found = self._base.execute(
+            "SELECT path, mtime, digest FROM deleted WHERE path NOT IN (SELECT path FROM copies WHERE ours)")
+        for path, mtime, digest in found:
+            yield bytes_of(path), mtime, digest
+
     def deletions(self) -> Iterator[Tuple[Any, ...]]:
         """The faxes that were deleted, or were about to be: the values of their rows."""
         return self._base.execute("SELECT path, size, mtime, digest, deleted FROM deleted")
