@@ -10,6 +10,7 @@ import json
 import os
 import re
 import shutil
+import signal
 import sqlite3
 import subprocess
 from unittest import mock
@@ -314,6 +315,24 @@ def staying(room: Room, *_given: object) -> None:
         went_later(room, why, place)
 
 
+def stopped(room: Room, *_given: object) -> None:
+    """Where a run is stopped right before it deletes, or after the first fax, those that are left stay in the table."""
+    one, _ = two()
+    place = room("stopped")
+    for left, why in ((["a.tif", "b.tif"], ""), (["b.tif"], "stop")):
+        shutil.rmtree(place, ignore_errors=True)
+        for name in "ab":
+            put(f"{place}/tree/{name}.tif", one)
+        with not_going(why, lambda: None if why else os.kill(os.getpid(), signal.SIGTERM)):
+            ran = playing.run(words_of(place, "--delete"), place, playing.Trouble())
+        rows = sorted(os.path.basename(path).decode() for path in room.rows(f"{place}/t.sqlite"))
+        deleted = json.loads(room.run("table", f"{place}/t.sqlite", "--summary")[1])["deleted"]
+        room.claim(f"stopped, {why!r}: {ran.error}", ("stopped; the same words go on" in ran.error,
+                   sorted(os.listdir(f"{place}/tree")), rows, deleted), (True, left, left, 2 - len(left)))  # fmt: skip
+        ran = playing.run(words_of(place, "--delete"), place, playing.Trouble())
+        room.claim(f"stopped, {why!r}: the same words go on", (ran.status, os.listdir(f"{place}/tree")), (0, []))
+
+
 def went_later(room: Room, why: str, place: str) -> None:
     """The run after one that could not delete a fax does it again; or counts it, where somebody deleted it."""
     words = [it for it in words_of(place) if it != "--gone"]
@@ -338,6 +357,8 @@ def not_going(why: str, happens: Callable[[], object]) -> Iterator[None]:
     def refuse(path: bytes, dir_fd: int | None = None) -> None:
         if why == "NotDeleted" and path == b"b.tif":
             raise refused
+        if why == "stop" and path == b"b.tif":
+            os.kill(os.getpid(), signal.SIGTERM)
         unlink(path, dir_fd=dir_fd)
 
     def refuse_mark(file: int, attribute: str, value: bytes) -> None:
@@ -426,4 +447,4 @@ def figures(room: Room, *_given: object) -> None:
 
 
 PARTS: list[Part] = [parts, figures, foreign, backup, adopted, merged, merged_deletions, target_goes, other_names, linked,
-                     odd, staying]  # fmt: skip
+                     odd, staying, stopped]  # fmt: skip

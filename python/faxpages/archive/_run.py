@@ -17,7 +17,7 @@ from ._fax import FAULTY, FIELDS, GOOD, NOT_READ, OTHER, Done, Found, Job, Waiti
 from ._files import Seen, Stood
 from ._lacks import NAMES
 from ._progress import Gathering, Progress
-from ._table import Compared, Copied, Known, Table, text_of
+from ._table import Compared, Copied, Known, Look, Table, text_of
 
 # Of how many rows one may be gone at once.
 _TENTH = 10
@@ -387,19 +387,28 @@ class Run:
             elif why != "OutsideTree":
                 self._keep(it, why)
         rows = self._table.forget_deleted([it.path for it in ready])
-        marked = [it for it in ready if self._is_marked(it)]
-        # Now all copies are on the disk, with their marks and the folders that they stand in.
-        os.sync()
-        gone = [it.path for it in marked if self._is_gone(tree, it)]
-        self._table.are_deleted(gone)
-        if self._whys:
-            self._table.stay([row for row in rows if self._is_left(row[0].path)], self._whys)
-            self._whys.clear()
+        gone: List[bytes] = []
+        try:
+            marked = [it for it in ready if self._is_marked(it)]
+            # Now all copies are on the disk, with their marks and the folders that they stand in.
+            os.sync()
+            for it in marked:
+                if self._is_gone(tree, it):
+                    gone.append(it.path)
+        finally:
+            # Also where a signal asks for the end.
+            self._note_deleted(rows, gone)
         return len(gone), len(batch) - len(gone) - outside, outside
 
-    def _is_left(self, path: bytes) -> bool:
-        """Whether a fax stays that was to be deleted, and has not gone otherwise."""
-        return path in self._whys and os.path.lexists(os.path.join(self._job.tree, path))
+    def _note_deleted(self, rows: List[Tuple[Found, Look]], gone: List[bytes]) -> None:
+        """Notes which faxes are deleted, and puts back the rows of those that stay, not of what has gone otherwise."""
+        self._table.are_deleted(gone)
+        away = set(gone)
+        left = [row for row in rows if row[0].path not in away
+                and os.path.lexists(os.path.join(self._job.tree, row[0].path))]
+        if left or self._whys:
+            self._table.stay(left, self._whys)
+            self._whys.clear()
 
     def _keep(self, it: Compared, why: str) -> None:
         """Says why a fax is not deleted, for the table too, and notes what a link leads to that stays."""

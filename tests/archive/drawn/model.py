@@ -152,7 +152,7 @@ def rows_of(table: str) -> Table:
         try:
             found = base.execute(
                 "SELECT CAST(path AS BLOB), size, mtime, status, fault, fault_page, fault_row, fault_tag, lacks, run, "
-                "status = 0 AND why IS NOT NULL AND path NOT IN (SELECT path FROM copies) "
+                "status = 0 AND path NOT IN (SELECT path FROM copies) "
                 "FROM faxes JOIN times USING (path)").fetchall()
             last = base.execute("SELECT number, words, ended IS NOT NULL AND NOT unread, ended IS NOT NULL FROM runs "
                                 "ORDER BY number DESC LIMIT 1").fetchone()
