@@ -24,9 +24,9 @@ echo "$*" >"$HOME/mailed-by"
 """
 # cat, where the disk has no fax.
 BAD_DISK = """#!/bin/sh
-case $(readlink /proc/self/fd/0) in
+case ${1-} in
 *.tif)
-    echo 'cat: -: Input/output error' >&2
+    echo "cat: $1: Input/output error" >&2
     exit 1
     ;;
 esac
