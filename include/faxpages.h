@@ -41,8 +41,8 @@
 #include <stdint.h>
 
 /* The version of this header, as text and as a number; faxpages_version tells the library's. */
-#define FAXPAGES_VERSION "1.11.0"
-#define FAXPAGES_VERSION_NUMBER 11100
+#define FAXPAGES_VERSION "1.12.0"
+#define FAXPAGES_VERSION_NUMBER 11200
 
 #ifdef __cplusplus
 extern "C" {

@@ -10,12 +10,12 @@ from erasing import CLOSING, Eraser, Refused, Token
 
 # The fields that only proofs read, by their crate and their struct; of a variant the number of those that stay.
 FIELDS: dict[str, dict[str, str | int]] = {
-    "fax_files": {"Round": "start"},
+    "fax_files": {"Cycle": "start"},
     "fax_walk": {"Salvage": "file", "SalvagePage": "form", "Strip": 1, "Uncounted": 1},
 }
 
 # The functions that only laws call, by their crate and their module.
-FUNCTIONS: dict[str, dict[str, str]] = {"fax_walk": {"pages": "forms_are_left", "walk": "items_are_left"}}
+FUNCTIONS: dict[str, dict[str, str]] = {"fax_walk": {"pages": "lemma_forms_left", "walk": "lemma_items_left"}}
 
 
 def counts(token: Token) -> bool:

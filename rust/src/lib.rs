@@ -629,7 +629,7 @@ pub fn convert(file: &[u8], options: &Options) -> Result<Vec<u8>, Error> {
     }
 }
 
-/// The version of the calls, as 11100 for 1.11.0: of the plain sources, or of the archive that is linked.
+/// The version of the calls, as 11200 for 1.12.0: of the plain sources, or of the archive that is linked.
 #[must_use]
 pub fn version() -> u32 {
     calls::faxpages_version()

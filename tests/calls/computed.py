@@ -36,7 +36,7 @@ def digits(data: bytes) -> str:
     return f"x{bytes(data).hex().upper()}"
 
 
-def pels_of(data: bytes, width: int) -> str:
+def pels_of_runs(data: bytes, width: int) -> str:
     """The pels of packed bytes."""
     return "".join(f"{byte:08b}" for byte in data)[:width].translate(PELS)
 
@@ -80,7 +80,7 @@ def first_others() -> Iterator[str]:
         white = bytes(16 if i == count - 1 else 0 for i in range(count))
         black = bytes(0xA5 if i % 19 == 7 else 0xFF for i in range(count))
         for data, colour in itertools.product((white, black), ("white", "black")):
-            wanted = others(pels_of(data, 8 * count), colour[0].upper())
+            wanted = others(pels_of_runs(data, 8 * count), colour[0].upper())
             yield line(f"first_others {colour} {digits(data)}", wanted, f"{count} bytes")
 
 
@@ -100,7 +100,7 @@ def marks(kind: str, seed: int, width: int) -> str:
         "thin marks": bytes(0x18 if i % 7 == 3 else 0 for i in range(count)),
         "noise": bytes(noise(seed, count)),
     }
-    return pels_of(kinds[kind], width)
+    return pels_of_runs(kinds[kind], width)
 
 
 def read_and_put(reference: str, row: str, why: str) -> Iterator[str]:
@@ -230,7 +230,7 @@ def eight_pels(row: int, at: int) -> int:
 
 @functools.cache
 def page_row(row: int) -> str:
-    return pels_of(bytes(eight_pels(row, at) for at in range(216)), 1728)
+    return pels_of_runs(bytes(eight_pels(row, at) for at in range(216)), 1728)
 
 
 def real_strips() -> Iterator[str]:

@@ -1,4 +1,4 @@
-//! Walks over a small file in standard input, and calls the walk again wherever it answers that
+//! Walks over a small file in standard input, and calls the walk again wherever it returns that
 //! memory was refused. It prints each row's place and changing elements, and takes no memory
 //! itself: so the tests can refuse each growth of the walk, and compare what is printed.
 #![tactic(auto)]
@@ -17,7 +17,7 @@ const MOST_CALLS: u32 = 1000;
 /// The status at a fault of the file, or where there were too many calls.
 const FAULT: u8 = 1;
 
-/// Reads standard input to its end, and answers how many bytes of it are kept: at most `MOST`.
+/// Reads standard input to its end, and returns how many bytes of it are kept: at most `MOST`.
 fn read_file(rt: &HostRuntime, file: &mut [u8; MOST]) -> io::Result<usize> {
     let mut input = rt.stdin();
     let mut end = 0;

@@ -10,11 +10,11 @@ use Rattle.fax_bits.specs.declared.FillOrder.{FillOrder}
 use Rattle.fax_bits.specs.declared.window.Window.{Window}
 use Rattle.fax_bits.specs.declared.mode_codes.ModeCode.TheVariants.{Vertical}
 use Rattle.fax_bits.specs.Bits.{bits, code_bits, bits_number}
-use Rattle.fax_bits.specs.views.Source.{HasZerosAhead, Source, source_of, KeepsEnd}
+use Rattle.fax_bits.specs.views.Source.{HasLeadingZeros, Source, source_of, KeepsEnd}
 use Rattle.fax_bits.specs.Tables.{modes}
-use Rattle.fax_bits.specs.code.BitsAhead.{bits_ahead, IsAhead, place_before}
+use Rattle.fax_bits.specs.code.BitsAhead.{bits_ahead, IsAhead, bit_offset}
 use Rattle.fax_bits.specs.code.LookUp.{IsBegun, IsCode, IsLookedUp}
-use Rattle.fax_bits.proofs.SourceLemmas.{length-left}
+use Rattle.fax_bits.proofs.SourceLemmas.{length-remaining}
 use Rattle.fax_bits.proofs.CodeBitsLemmas.{length-code_bits}
 use Rattle.fax_bits.proofs.TableLemmas.{listed, left_after}
 use Rattle.fax_bits.proofs.PeekLemmas.{padded}
@@ -39,12 +39,12 @@ one_is_code = record {
 -- what begins so many bits is no longer
 pub begun_short : {F : Type 0} {means : List Bool → F → Type 0} (n number : ℕ) {len : ℕ} {found : F}
     → IsBegun means (code_bits n number) len found → len ≤ n
-begun_short n number begun =
+begun_short n number origin =
     omega (
       arith,
-      begun.long,
-      ap length begun.ahead.1,
-      length-append begun.front begun.ahead.0,
+      origin.long,
+      ap length origin.ahead.1,
+      length-append origin.front origin.ahead.0,
       length-code_bits n
           number,
     )
@@ -58,49 +58,49 @@ after_ahead order bytes old after n is ahead count at = grind (arith, common_ste
 
 -- a window at the place of another, of which more may be loaded
 module _ (order : FillOrder) (bytes : List ℕ) (old window : Window) (source : Source) (is : IsAhead order bytes old)
-    (shown : source_of order bytes (place_before old) ≡ source)
+    (shown : source_of order bytes (bit_offset old) ≡ source)
     (same : bits_ahead order bytes window ≡ bits_ahead order bytes old)
     (place : 8 * window.at + old.count ≡ 8 * old.at + window.count) (within : window.at ≤ length bytes) where
-  pub loaded_left : bits_ahead order bytes window ≡ source.left
-  loaded_left = same ∙ is.bits_are ∙ ap (λ (s : Source). s.left) shown
+  pub loaded_left : bits_ahead order bytes window ≡ source.remaining
+  loaded_left = same ∙ is.bits_are ∙ ap (λ (s : Source). s.remaining) shown
 
-  pub loaded-left : window.count ≤ length source.left
-  loaded-left = grind (arith, common_steps, length-first_bits)
+  pub loaded-remaining : window.count ≤ length source.remaining
+  loaded-remaining = grind (arith, common_steps, length-first_bits)
 
   -- where all bytes are loaded, no bits are left but those of the window
-  pub all_loaded : window.at ≡ length bytes → length source.left ≡ window.count
-  all_loaded all = grind (arith, length-left)
+  pub all_loaded : window.at ≡ length bytes → length source.remaining ≡ window.count
+  all_loaded all = grind (arith, length-remaining)
 
   -- after some of its bits
   module _ (n : ℕ) (after : Window) (short : n ≤ 32) (count : after.count + n ≡ window.count)
       (at : after.at ≡ window.at) where
-    pub left_after_code : drop (place_before after) (bits order bytes) ≡ drop n source.left
+    pub left_after_code : drop (bit_offset after) (bits order bytes) ≡ drop n source.remaining
     left_after_code = grind (arith, common_steps)
 
-    pub end_kept : KeepsEnd source (source_of order bytes (place_before after))
-    end_kept = grind (arith, length-left)
+    pub end_kept : KeepsEnd source (source_of order bytes (bit_offset after))
+    end_kept = grind (arith, length-remaining)
 
-  -- zeros and the 1 after them are gone past
-  pub zeros_taken : (zeros : ℕ) (after : Window) → zeros < 32 → HasZerosAhead (bits_ahead order bytes window) zeros
+  -- zeros and the 1 after them are skipped
+  pub zeros_taken : (zeros : ℕ) (after : Window) → zeros < 32 → HasLeadingZeros (bits_ahead order bytes window) zeros
       → after.count + (zeros + 1) ≡ window.count → after.at ≡ window.at
-      → source.left ≡ replicate zeros false ++ true ∷ drop (place_before after) (bits order bytes)
+      → source.remaining ≡ replicate zeros false ++ true ∷ drop (bit_offset after) (bits order bytes)
   zeros_taken zeros after short ahead count at =
       let front = replicate zeros false in
-      let is : source.left ≡ front ++ true ∷ ahead.0 = sym loaded_left ∙ ahead.1 in
+      let is : source.remaining ≡ front ++ true ∷ ahead.0 = sym loaded_left ∙ ahead.1 in
       let long : zeros + 1 ≡ length front + 1 = ap (λ n. n + 1) (sym (length-replicate zeros false)) in
-      let rest : drop (place_before after) (bits order bytes) ≡ ahead.0 =
+      let rest : drop (bit_offset after) (bits order bytes) ≡ ahead.0 =
       left_after_code (zeros + 1) after (omega arith) count at ∙ ap (drop (zeros + 1)) is
       ∙ ap (λ n. drop n (front ++ true ∷ ahead.0)) long ∙ drop-append-add front (true ∷ ahead.0) 1 in
       is ∙ ap (λ b. front ++ true ∷ b) (sym rest)
 
-  -- a 1 is gone past
-  pub one_looked_up : (after : Window) → HasZerosAhead (bits_ahead order bytes window) 0
+  -- a 1 is skipped
+  pub one_looked_up : (after : Window) → HasLeadingZeros (bits_ahead order bytes window) 0
       → after.count + 1 ≡ window.count
       → after.at ≡ window.at
-      → IsLookedUp (IsCode modes) source (Vertical (pos 0)) (source_of order bytes (place_before after))
+      → IsLookedUp (IsCode modes) source (Vertical (pos 0)) (source_of order bytes (bit_offset after))
   one_looked_up after one count at =
-      let is : source.left ≡ true ∷ one.0 = sym loaded_left ∙ one.1 in
-      let rest : one.0 ≡ drop (place_before after) (bits order bytes) =
+      let is : source.remaining ≡ true ∷ one.0 = sym loaded_left ∙ one.1 in
+      let rest : one.0 ≡ drop (bit_offset after) (bits order bytes) =
       sym (ap (drop 1) is) ∙ sym (left_after_code 1 after (omega arith) count at) in
       record {
         front = true ∷ [];
@@ -112,42 +112,43 @@ module _ (order : FillOrder) (bytes : List ℕ) (old window : Window) (source : 
 
   -- ones that stand next
   module _ (n : ℕ) (all : n ≤ window.count) (ones : take n (bits_ahead order bytes window) ≡ replicate n true) where
-    pub ones_left : take n source.left ≡ replicate n true
+    pub ones_left : take n source.remaining ≡ replicate n true
     ones_left = ap (take n) (sym loaded_left) ∙ ones
 
     pub ones_taken : (k : ℕ) → k ≤ n → k ≤ 32 → (after : Window) → after.count + k ≡ window.count → after.at ≡ window.at
-        → source.left ≡ replicate k true ++ drop (place_before after) (bits order bytes)
+        → source.remaining ≡ replicate k true ++ drop (bit_offset after) (bits order bytes)
     ones_taken k few short after count at =
-        sym (take-append-drop k source.left)
-        ∙ ap (λ front. front ++ drop k source.left)
-        (sym (take-take k n source.left few) ∙ ap (take k) ones_left ∙ take-replicate k n true few)
+        sym (take-append-drop k source.remaining)
+        ∙ ap (λ front. front ++ drop k source.remaining)
+        (sym (take-take k n source.remaining few) ∙ ap (take k) ones_left ∙ take-replicate k n true few)
         ∙ ap (λ rest. replicate k true ++ rest) (sym (left_after_code k after short count at))
 
   -- the next n bits, which are loaded
   module _ (n : ℕ) (few : n ≤ 32) (many : n ≤ window.count) (number : ℕ) (number_is : number
       ≡ bits_number (take n (padded (bits_ahead order bytes window) n))) where
-    spelled_is : number ≡ bits_number (take n (padded source.left n))
+    spelled_is : number ≡ bits_number (take n (padded source.remaining n))
     spelled_is = number_is ∙ ap (λ b. bits_number (take n (padded b n))) loaded_left
 
     -- the first of them mean what is found, and the window after them stands behind these
     module _ {F : Type 0} {means : List Bool → F → Type 0} {len : ℕ} {found : F}
-        (begun : IsBegun means (code_bits n number) len found)
+        (origin : IsBegun means (code_bits n number) len found)
         (after : Window) (count : after.count + len ≡ window.count) (at : after.at ≡ window.at) where
       short : len ≤ 32
-      short = omega (arith, begun_short n number begun, few)
+      short = omega (arith, begun_short n number origin, few)
 
-      front_left : drop (place_before after) (bits order bytes) ≡ drop (length begun.front) source.left
-      front_left = left_after_code len after short count at ∙ ap (λ n. drop n source.left) (sym begun.long)
+      front_left : drop (bit_offset after) (bits order bytes) ≡ drop (length origin.front) source.remaining
+      front_left = left_after_code len after short count at ∙ ap (λ n. drop n source.remaining) (sym origin.long)
 
-      front_taken : source.left ≡ begun.front ++ drop (place_before after) (bits order bytes)
+      front_taken : source.remaining ≡ origin.front ++ drop (bit_offset after) (bits order bytes)
       front_taken =
-          left_after source.left begun.front (begun.ahead.0 ++ drop n source.left) (length begun.front)
-          (sym (take-append-drop n source.left)
-          ∙ ap (λ b. b ++ drop n source.left)
-          (sym (peeked_bits source.left n (omega (arith, many, loaded-left)) number spelled_is) ∙ begun.ahead.1)
-          ∙ append_assoc begun.front begun.ahead.0 (drop n source.left))
+          left_after source.remaining origin.front (origin.ahead.0 ++ drop n source.remaining) (length origin.front)
+          (sym (take-append-drop n source.remaining)
+          ∙ ap (λ b. b ++ drop n source.remaining)
+          (sym (peeked_bits source.remaining n (omega (arith, many, loaded-remaining)) number spelled_is)
+          ∙ origin.ahead.1)
+          ∙ append_assoc origin.front origin.ahead.0 (drop n source.remaining))
           refl
-          ∙ ap (λ rest. begun.front ++ rest) (sym front_left)
+          ∙ ap (λ rest. origin.front ++ rest) (sym front_left)
 
-      pub looked_up : IsLookedUp means source found (source_of order bytes (place_before after))
+      pub looked_up : IsLookedUp means source found (source_of order bytes (bit_offset after))
       looked_up = grind (arith, front_taken, length-append)

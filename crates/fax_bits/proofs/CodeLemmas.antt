@@ -7,8 +7,8 @@ use Rattle.std.proofs.lemmas.List.Folds.{Any-from_list_any, list_any-from_Any}
 use Rattle.fax_bits.specs.declared.codes.CodeEntry.{CodeEntry}
 use Rattle.fax_bits.specs.declared.codes.CodeFault.{CodeFault}
 use Rattle.fax_bits.specs.declared.codes.CodeFault.TheVariants.{DataEnds, BadCode}
-use Rattle.fax_bits.specs.Bits.{BeginsWith}
-use Rattle.fax_bits.specs.Codes.{bits_of, Takes, HasNoCode, after_front, is_cut_code, first_code, code_fault, read_or}
+use Rattle.fax_bits.specs.Bits.{StartsWith}
+use Rattle.fax_bits.specs.Codes.{bits_of, Decodes, HasNoCode, after_front, is_cut_code, first_code, code_fault, read_or}
 use Rattle.fax_bits.specs.Codes.{read_code}
 use Rattle.fax_bits.specs.Reading.{read, failed, answered}
 use Rattle.fax_bits.specs.views.Codes.{HasShortCodes, IsPrefixFree}
@@ -18,7 +18,7 @@ use Rattle.fax_bits.proofs.ReadingLemmas.{IsCutBy}
 
 -- what is left after a front, or no front
 pub front_is : (front b : List Bool)
-    → MatchOption (after_front front b) (BeginsWith b front → ⊥) (λ rest. b ≡ front ++ rest)
+    → MatchOption (after_front front b) (StartsWith b front → ⊥) (λ rest. b ≡ front ++ rest)
 front_is [] b = refl
 front_is (true ∷ front) [] = λ h. let is = h.1 in cc
 front_is (false ∷ front) [] = λ h. let is = h.1 in cc
@@ -43,17 +43,17 @@ is_cut_of (false ∷ b) more missing = is_cut_of b more missing
 
 module _ {M : Type 0} (b : List Bool) where
   abbrev IsFirst : List (CodeEntry M) → Option (M × List Bool) → Type 0
-  IsFirst table r = MatchOption r (HasNoCode table b) (λ code. Takes table b code.0 code.1)
+  IsFirst table r = MatchOption r (HasNoCode table b) (λ code. Decodes table b code.0 code.1)
 
   none_more : (entry : CodeEntry M) (table : List (CodeEntry M)) → HasNoCode table b
-      → (BeginsWith b (bits_of entry) → ⊥)
+      → (StartsWith b (bits_of entry) → ⊥)
       → HasNoCode (entry ∷ table) b
   none_more entry table none not another (zero, inside, is) begins =
-      not (subst (λ e. BeginsWith b (bits_of e)) (sym is) begins)
+      not (subst (λ e. StartsWith b (bits_of e)) (sym is) begins)
   none_more entry table none not another (suc k, inside, is) begins = none another (k, omega (arith, inside), is) begins
 
   after : (entry : CodeEntry M) (table : List (CodeEntry M)) (r : Option (M × List Bool))
-      → (BeginsWith b (bits_of entry) → ⊥)
+      → (StartsWith b (bits_of entry) → ⊥)
       → IsFirst table r → IsFirst (entry ∷ table) r
   after entry table None not none = none_more entry table none not
   after entry table (Some code) not taken = record {
@@ -64,7 +64,7 @@ module _ {M : Type 0} (b : List Bool) where
   }
 
   by_front : (entry : CodeEntry M) (table : List (CodeEntry M)) (r : Option (List Bool))
-      → MatchOption r (BeginsWith b (bits_of entry) → ⊥) (λ rest. b ≡ bits_of entry ++ rest)
+      → MatchOption r (StartsWith b (bits_of entry) → ⊥) (λ rest. b ≡ bits_of entry ++ rest)
       → IsFirst table (first_code table b)
       → IsFirst (entry ∷ table) (elim r [ Some rest ↦ Some (entry.meaning, rest) | None ↦ first_code table b ])
   by_front entry table None not more = after entry table (first_code table b) not more
@@ -79,31 +79,31 @@ module _ {M : Type 0} (b : List Bool) where
 
   -- a code that is read is taken
   pub read_is_taken : (table : List (CodeEntry M)) (meaning : M) (rest : List Bool)
-      → read_code table b ≡ read meaning rest → Takes table b meaning rest
+      → read_code table b ≡ read meaning rest → Decodes table b meaning rest
   read_is_taken table meaning rest is = by (first_code table b) (first_is table) is
     where
       by : (r : Option (M × List Bool)) → IsFirst table r
           → read_or (code_fault table b) r ≡ read meaning rest
-          → Takes table b meaning rest
-      by (Some (found, left)) taken same =
+          → Decodes table b meaning rest
+      by (Some (found, remaining)) taken same =
           let meaning_is : found ≡ meaning = cc in
-          let rest_is : left ≡ rest = cc in
-          subst (λ m. Takes table b m rest) meaning_is (subst (λ c. Takes table b found c) rest_is taken)
+          let rest_is : remaining ≡ rest = cc in
+          subst (λ m. Decodes table b m rest) meaning_is (subst (λ c. Decodes table b found c) rest_is taken)
       by None none same = absurd cc
 
   pub what_is_taken : (table : List (CodeEntry M)) (rest : List Bool) (r : Result M CodeFault)
-      → read_code table b ≡ answered (λ m. m) r rest → IfOk r (λ meaning. Takes table b meaning rest)
+      → read_code table b ≡ answered (λ m. m) r rest → IfOk r (λ meaning. Decodes table b meaning rest)
   what_is_taken table rest (Ok meaning) is = read_is_taken table meaning rest is
   what_is_taken table rest (Err fault) is = tt
 
   -- and of a table none of whose codes begins another a code that is taken is read
   pub taken_is_read : (table : List (CodeEntry M)) → IsPrefixFree table → (meaning : M) (rest : List Bool)
-      → Takes table b meaning rest → read_code table b ≡ read meaning rest
+      → Decodes table b meaning rest → read_code table b ≡ read meaning rest
   taken_is_read table free meaning rest taken = by (first_code table b) (first_is table)
     where
       by : (r : Option (M × List Bool)) → IsFirst table r
           → read_or (code_fault table b) r ≡ read meaning rest
-      by (Some (found, left)) first = let same = takes_one table free b found meaning left rest first taken
+      by (Some (found, remaining)) first = let same = takes_one table free b found meaning remaining rest first taken
           in cc (same.0, same.1)
       by None none = absurd (none taken.entry taken.listed (rest, taken.spelled))
 

@@ -6,7 +6,7 @@ use Rattle.std.proofs.Math.Seq.{take-append_seam}
 use Rattle.std.proofs.lemmas.Nat.{pow_pos, mod_below, shr_below, shr_split}
 use Rattle.std.proofs.lemmas.Nat.Bits.{bit_at-lt, same_from_bits_below}
 use Rattle.std.specs.Int.{bit_at}
-use Rattle.fax_bits.specs.Bits.{code_bits, BeginsWith}
+use Rattle.fax_bits.specs.Bits.{code_bits, StartsWith}
 use Rattle.fax_bits.proofs.CodeBitsLemmas.{code_bits-add, length-code_bits, get_or-code_bits}
 
 same_digit : (n m : ℕ) → n < 2 → m < 2 → nat_eq n 1 ≡ nat_eq m 1 → n ≡ m
@@ -35,14 +35,14 @@ split_at n len window within =
     (mod_below window (2 ^ (n - len)) (pow_pos (n - len)))
 
 pub code_ahead : (n window len code : ℕ) → len ≤ n → window / 2 ^ (n - len) ≡ code
-    → BeginsWith (code_bits n window) (code_bits len code)
+    → StartsWith (code_bits n window) (code_bits len code)
 code_ahead n window len code within is = (
   code_bits (n - len) (window % 2 ^ (n - len)),
   split_at n len window within ∙ ap (λ k. code_bits len k ++ code_bits (n - len) (window % 2 ^ (n - len))) is,
 )
 
 -- a code that begins the bits is no longer than they are
-pub ahead_is_short : (n window len code : ℕ) → BeginsWith (code_bits n window) (code_bits len code) → len ≤ n
+pub ahead_is_short : (n window len code : ℕ) → StartsWith (code_bits n window) (code_bits len code) → len ≤ n
 ahead_is_short n window len code ahead =
     omega (
       arith,
@@ -54,7 +54,7 @@ ahead_is_short n window len code ahead =
 
 -- and is the number that the first bits spell
 pub ahead_is_first : (n window len code : ℕ) → len ≤ n → window < 2 ^ n → code < 2 ^ len
-    → BeginsWith (code_bits n window) (code_bits len code)
+    → StartsWith (code_bits n window) (code_bits len code)
     → window / 2 ^ (n - len) ≡ code
 ahead_is_first n window len code within fits code_fits ahead =
     let e : len + (n - len) ≡ n = omega arith in

@@ -6,7 +6,7 @@ use Rattle.std.specs.List.{range_with_len}
 use Rattle.std.proofs.lemmas.List.FromFn.{get_or-map-range_with_len}
 use Rattle.std.proofs.lemmas.Nat.{shr_below}
 use Rattle.fax_bits.specs.declared.codes.CodeEntry.{CodeEntry}
-use Rattle.fax_bits.specs.declared.indexes.TheConstants.{WHITE_SHORT, WHITE_LONG, BLACK_SHORT, BLACK_LONG, MODE_PLACES}
+use Rattle.fax_bits.specs.declared.indexes.TheConstants.{WHITE_SHORT, WHITE_LONG, BLACK_SHORT, BLACK_LONG, MODE_INDEXES}
 use Rattle.fax_bits.specs.code.CodePlaces.{place_of}
 use Rattle.fax_bits.proofs.TablePlaceLemmas.{long_codes_test, short_place}
 use Rattle.fax_bits.specs.Tables.{modes, white_runs, white_terminating, white_make_up, black_runs, black_terminating}
@@ -33,7 +33,7 @@ black_long_is : BLACK_LONG ≡ places black_runs 13 512
 unfolding black_runs black_terminating black_make_up common_make_up
 black_long_is = refl
 
-mode_places_is : MODE_PLACES ≡ places modes 7 128
+mode_places_is : MODE_INDEXES ≡ places modes 7 128
 unfolding modes
 mode_places_is = refl
 
@@ -83,8 +83,8 @@ black_place number above within =
 pub black_long_place : (number : ℕ) → number < 512 → get_or BLACK_LONG number 0 ≡ place_of black_runs 13 number
 black_long_place number below = place_at BLACK_LONG black_runs 13 512 number black_long_is below
 
-pub mode_place : (number : ℕ) → number < 2 ^ 13 → get_or MODE_PLACES (number / 2 ^ 6) 0 ≡ place_of modes 13 number
-mode_place number within = short_place_at MODE_PLACES modes 7 0 number mode_places_is (omega arith) mode_long_codes
+pub mode_place : (number : ℕ) → number < 2 ^ 13 → get_or MODE_INDEXES (number / 2 ^ 6) 0 ≡ place_of modes 13 number
+mode_place number within = short_place_at MODE_INDEXES modes 7 0 number mode_places_is (omega arith) mode_long_codes
     within (omega arith)
 
 pub white_short_place : (number : ℕ) → number < 2 ^ 13 → get_or WHITE_SHORT (number / 2 ^ 4) 0 < 104

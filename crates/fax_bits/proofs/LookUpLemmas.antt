@@ -4,9 +4,9 @@ use Rattle.std.proofs.Common.{arith, rules}
 use Rattle.std.proofs.Common.{append_assoc, append-nil, length-append}
 use Rattle.std.proofs.lemmas.Grind.{common_steps}
 use Rattle.fax_bits.specs.declared.codes.CodeEntry.{CodeEntry}
-use Rattle.fax_bits.specs.declared.pairs.Pair.{Pair}
+use Rattle.fax_bits.specs.declared.pairs.RunPair.{RunPair}
 use Rattle.fax_bits.specs.Bits.{code_bits}
-use Rattle.fax_bits.specs.Codes.{bits_of, Takes, IsRun}
+use Rattle.fax_bits.specs.Codes.{bits_of, Decodes, IsRun}
 use Rattle.fax_bits.specs.Written.{run_bits, mode_bits}
 use Rattle.fax_bits.specs.declared.Colour.{Colour}
 use Rattle.fax_bits.specs.declared.mode_codes.ModeCode.TheVariants.{Horizontal}
@@ -39,35 +39,35 @@ code_begins table b len meaning short found = record {
 
 -- and is taken
 pub code_taken : {M : Type 0} (table : List (CodeEntry M)) (old : Source) (meaning : M) (new : Source)
-    → IsLookedUp (IsCode table) old meaning new → Takes table old.left meaning new.left
+    → IsLookedUp (IsCode table) old meaning new → Decodes table old.remaining meaning new.remaining
 code_taken table old meaning new read = record {
   entry = read.meaning.entry;
   listed = read.meaning.listed;
   means = read.meaning.means;
-  spelled = read.taken ∙ ap (λ front. front ++ new.left) read.meaning.spelled;
+  spelled = read.taken ∙ ap (λ front. front ++ new.remaining) read.meaning.spelled;
 }
 
 -- what begins the first thirteen of thirty-two bits begins them all
 pub begins_more : {F : Type 0} (means : List Bool → F → Type 0) (number len : ℕ) (found : F)
     → IsBegun means (code_bits 13 (number / 2 ^ 19)) len found → IsBegun means (code_bits 32 number) len found
-begins_more means number len found begun = search (rules, begins_all)
+begins_more means number len found origin = search (rules, begins_all)
 
 -- a code for a run that begins the bits is taken of its own
 run_code_begins : (colour : Colour) (b : List Bool) (len : ℕ) (code : RunCode)
     → HasCodeAhead (run_table colour) b len code
-    → IsBegun (λ front code. Takes (run_table colour) front code []) b len code
+    → IsBegun (λ front code. Decodes (run_table colour) front code []) b len code
 run_code_begins colour b len code found =
-    let begun = code_begins (run_table colour) b len code (run_table_has_short_codes colour) found in
+    let origin = code_begins (run_table colour) b len code (run_table_has_short_codes colour) found in
     record {
-      front = begun.front;
-      ahead = begun.ahead;
-      long = begun.long;
-      some = begun.some;
+      front = origin.front;
+      ahead = origin.ahead;
+      long = origin.long;
+      some = origin.some;
       meaning = record {
-        entry = begun.meaning.entry;
-        listed = begun.meaning.listed;
-        means = begun.meaning.means;
-        spelled = begun.meaning.spelled ∙ sym (append-nil (bits_of begun.meaning.entry));
+        entry = origin.meaning.entry;
+        listed = origin.meaning.listed;
+        means = origin.meaning.means;
+        spelled = origin.meaning.spelled ∙ sym (append-nil (bits_of origin.meaning.entry));
       };
     }
 
@@ -83,15 +83,15 @@ run_code_short colour b len code found = omega (
 pub short_run_begins : (colour : Colour) (b : List Bool) (len pels : ℕ)
     → HasCodeAhead (run_table colour) b len (Terminating pels) → IsBegun (IsOneRun colour) b len pels
 short_run_begins colour b len pels found =
-    let begun = run_code_begins colour b len (Terminating pels) found in
+    let origin = run_code_begins colour b len (Terminating pels) found in
     record {
-      front = begun.front;
-      ahead = begun.ahead;
-      long = begun.long;
-      some = begun.some;
+      front = origin.front;
+      ahead = origin.ahead;
+      long = origin.long;
+      some = origin.some;
       meaning = record {
-        spelled = short_written colour begun.front pels [] begun.meaning ∙ append-nil (run_bits colour pels);
-        short = omega (arith, terminating_few colour begun.front pels [] begun.meaning);
+        spelled = short_written colour origin.front pels [] origin.meaning ∙ append-nil (run_bits colour pels);
+        short = omega (arith, terminating_few colour origin.front pels [] origin.meaning);
       };
     }
 
@@ -101,56 +101,58 @@ pub long_run_begins : (colour : Colour) (number len first more last : ℕ)
     → HasCodeAhead (run_table colour) (code_bits 13 (number * 2 ^ len % 2 ^ 32 / 2 ^ 19)) more (Terminating last)
     → IsBegun (IsOneRun colour) (code_bits 32 number) (len + more) (first + last)
 long_run_begins colour number len first more last found after =
-    let begun = begins_more _ number len (MakeUp first) (run_code_begins colour (code_bits 13 (number / 2 ^ 19)) len
+    let origin = begins_more _ number len (MakeUp first) (run_code_begins colour (code_bits 13 (number / 2 ^ 19)) len
     (MakeUp first) found) in
     let next = run_code_begins colour (code_bits 13 (number * 2 ^ len % 2 ^ 32 / 2 ^ 19)) more (Terminating last) after
     in
-    let make_up : Takes (run_table colour) (begun.front ++ next.front) (MakeUp first) next.front = record {
-      entry = begun.meaning.entry;
-      listed = begun.meaning.listed;
-      means = begun.meaning.means;
-      spelled = ap (λ front. front ++ next.front) (begun.meaning.spelled ∙ append-nil (bits_of begun.meaning.entry));
+    let make_up : Decodes (run_table colour) (origin.front ++ next.front) (MakeUp first) next.front = record {
+      entry = origin.meaning.entry;
+      listed = origin.meaning.listed;
+      means = origin.meaning.means;
+      spelled = ap (λ front. front ++ next.front) (origin.meaning.spelled ∙ append-nil (bits_of origin.meaning.entry));
     } in
     record {
-      front = begun.front ++ next.front;
+      front = origin.front ++ next.front;
       ahead =
-          begins_next number len begun.front next.front (run_code_short colour _ len (MakeUp first) found) begun.long
-          begun.ahead next.ahead;
-      long = length-append begun.front next.front ∙ ap (λ n. n + length next.front) begun.long
+          begins_next number len origin.front next.front (run_code_short colour _ len (MakeUp first) found) origin.long
+          origin.ahead next.ahead;
+      long = length-append origin.front next.front ∙ ap (λ n. n + length next.front) origin.long
           ∙ ap (λ n. len + n) next.long;
-      some = omega (arith, begun.some);
+      some = omega (arith, origin.some);
       meaning = record {
         spelled =
-            long_written colour (begun.front ++ next.front) first last next.front [] make_up next.meaning
+            long_written colour (origin.front ++ next.front) first last next.front [] make_up next.meaning
             ∙ append-nil (run_bits colour (first + last));
         short =
             omega (
               arith,
-              make_up_few colour (begun.front ++ next.front) first next.front make_up,
+              make_up_few colour (origin.front ++ next.front) first next.front make_up,
               terminating_few colour next.front last [] next.meaning,
             );
       };
     }
 
 -- stands before the bits after it, as it is written
-pub run_written : (colour : Colour) (front left : List Bool) (pels : ℕ) (rest : List Bool) → IsOneRun colour front pels
-    → left ≡ front ++ rest → left ≡ run_bits colour pels ++ rest
-run_written colour front left pels rest is taken = taken ∙ ap (λ b. b ++ rest) is.spelled
+pub run_written : (colour : Colour) (front remaining : List Bool) (pels : ℕ) (rest : List Bool)
+    → IsOneRun colour front pels
+    → remaining ≡ front ++ rest → remaining ≡ run_bits colour pels ++ rest
+run_written colour front remaining pels rest is taken = taken ∙ ap (λ b. b ++ rest) is.spelled
 
 -- and is read
-pub run_taken : (colour : Colour) (front left : List Bool) (pels : ℕ) (rest : List Bool) → IsOneRun colour front pels
-    → left ≡ front ++ rest → IsRun colour left pels rest
-run_taken colour front left pels rest is taken = grind (arith, run_bits_are_read)
+pub run_taken : (colour : Colour) (front remaining : List Bool) (pels : ℕ) (rest : List Bool)
+    → IsOneRun colour front pels
+    → remaining ≡ front ++ rest → IsRun colour remaining pels rest
+run_taken colour front remaining pels rest is taken = grind (arith, run_bits_are_read)
 
 -- two runs that begin the bits are found
-pub pair_begins : (b : List Bool) (len : ℕ) (pair : Pair) → IsPairAhead b len pair → IsBegun AreTwoRuns b len pair
+pub pair_begins : (b : List Bool) (len : ℕ) (pair : RunPair) → IsPairAhead b len pair → IsBegun AreTwoRuns b len pair
 pair_begins b len pair found = grind (arith, length-code_bits)
 
 -- and are read
-pub pair_taken : (front left : List Bool) (pair : Pair) (rest : List Bool) → AreTwoRuns front pair
-    → left ≡ front ++ rest
-    → IsPairRead left pair rest
-pair_taken front left pair rest are is = grind (arith, common_steps, run_bits_are_read)
+pub pair_taken : (front remaining : List Bool) (pair : RunPair) (rest : List Bool) → AreTwoRuns front pair
+    → remaining ≡ front ++ rest
+    → IsPairRead remaining pair rest
+pair_taken front remaining pair rest are is = grind (arith, common_steps, run_bits_are_read)
 
 -- the code of horizontal mode
 horizontal_is : code_bits 3 1 ≡ mode_bits Horizontal
@@ -158,27 +160,28 @@ unfolding modes mode_bits code_bits
 horizontal_is = refl
 
 -- and two runs after it are found
-pub horizontal_pair_begins : (number len : ℕ) (pair : Pair) → number / 2 ^ 13 ≡ 1
+pub horizontal_pair_begins : (number len : ℕ) (pair : RunPair) → number / 2 ^ 13 ≡ 1
     → IsPairAhead (code_bits 13 (number % 2 ^ 13)) len pair
     → IsBegun IsHorizontalPair (code_bits 16 number) (3 + len) pair
 horizontal_pair_begins number len pair first found =
-    let begun = pair_begins (code_bits 13 (number % 2 ^ 13)) len pair found in
+    let origin = pair_begins (code_bits 13 (number % 2 ^ 13)) len pair found in
     record {
-      front = mode_bits Horizontal ++ begun.front;
-      ahead = begins_after 3 13 number (mode_bits Horizontal) begun.front (ap (code_bits 3) first ∙ horizontal_is)
-          begun.ahead;
+      front = mode_bits Horizontal ++ origin.front;
+      ahead = begins_after 3 13 number (mode_bits Horizontal) origin.front (ap (code_bits 3) first ∙ horizontal_is)
+          origin.ahead;
       long =
-          length-append (mode_bits Horizontal) begun.front ∙ ap (λ n. n + length begun.front)
+          length-append (mode_bits Horizontal) origin.front ∙ ap (λ n. n + length origin.front)
           (ap length (sym horizontal_is))
-          ∙ ap (λ n. length (code_bits 3 1) + n) begun.long ∙ ap (λ n. n + len) (length-code_bits 3 1);
+          ∙ ap (λ n. length (code_bits 3 1) + n) origin.long ∙ ap (λ n. n + len) (length-code_bits 3 1);
       some = omega arith;
-      meaning = record { runs = begun.front; are = begun.meaning; spelled = refl };
+      meaning = record { runs = origin.front; are = origin.meaning; spelled = refl };
     }
 
 -- and are read
-pub horizontal_pair_taken : (front left : List Bool) (pair : Pair) (rest : List Bool) → IsHorizontalPair front pair
-    → left ≡ front ++ rest → IsHorizontalPairRead left pair rest
-horizontal_pair_taken front left pair rest is taken = record {
+pub horizontal_pair_taken : (front remaining : List Bool) (pair : RunPair) (rest : List Bool)
+    → IsHorizontalPair front pair
+    → remaining ≡ front ++ rest → IsHorizontalPairRead remaining pair rest
+horizontal_pair_taken front remaining pair rest is taken = record {
   runs = is.runs ++ rest;
   mode =
       rw (taken ∙ ap (λ b. b ++ rest) is.spelled ∙ append_assoc (mode_bits Horizontal) is.runs rest)

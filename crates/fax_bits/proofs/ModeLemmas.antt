@@ -4,7 +4,7 @@ use Rattle.std.proofs.Common.{unsigned_abs, get_or}
 use Rattle.std.proofs.lemmas.Grind.{common_steps}
 use Rattle.std.proofs.Common.{map, to_z, of_z, w8, w32, refl, ap, sym, ◌∙◌, arith}
 use Rattle.std.specs.Prelude.{Option, None, Some, slice_get, nat_abs, ◌+ℤ◌, ◌<ℤ◌, ◌⊎◌}
-use Rattle.fax_bits.specs.declared.indexes.TheConstants.{MODE_PLACES, VERTICAL_MODES}
+use Rattle.fax_bits.specs.declared.indexes.TheConstants.{MODE_INDEXES, VERTICAL_MODES}
 use Rattle.fax_bits.specs.declared.put.TheConstants.{VERTICAL_CODES}
 use Rattle.std.proofs.lemmas.List.{get_or-map}
 use Rattle.fax_bits.specs.declared.codes.CodeEntry.{CodeEntry}
@@ -14,7 +14,7 @@ use Rattle.fax_bits.specs.declared.mode_codes.ModeCode.TheVariants.{Extension as
 use Rattle.fax_bits.specs.Bits.{code_bits}
 use Rattle.fax_bits.specs.views.Codes.{HasCodeAhead, IsWritten}
 use Rattle.fax_bits.specs.code.CodePlaces.{place_of}
-use Rattle.fax_bits.specs.Codes.{Takes, bits_of}
+use Rattle.fax_bits.specs.Codes.{Decodes, bits_of}
 use Rattle.fax_bits.specs.Written.{mode_bits}
 use Rattle.fax_bits.specs.laws.Codes.{ModeBitsAreRead}
 use Rattle.fax_bits.specs.Tables.{modes}
@@ -47,7 +47,7 @@ has_code d written = grind (arith, common_steps)
 
 -- a mode that is written is read again
 takes_mode : (place : ℕ) (entry : CodeEntry ModeCode) (more : List Bool) → slice_get modes place ≡ Some entry
-    → bits_of entry ≡ mode_bits entry.meaning → Takes modes (mode_bits entry.meaning ++ more) entry.meaning more
+    → bits_of entry ≡ mode_bits entry.meaning → Decodes modes (mode_bits entry.meaning ++ more) entry.meaning more
 takes_mode place entry more found same = grind (arith, listed)
 
 pub mode_bits_are_read : ModeBitsAreRead
@@ -93,11 +93,11 @@ shift_at (Some entry) = vertical_shift entry.meaning
 abbrev read_shift : ℤ → ℤ
 read_shift d = to_z w8 (of_z w8 d)
 
-lens_are : VERTICAL_MODES.lens ≡ map (λ place. len_at (slice_get modes place)) MODE_PLACES
+lens_are : VERTICAL_MODES.lens ≡ map (λ place. len_at (slice_get modes place)) MODE_INDEXES
 unfolding modes
 lens_are = refl
 
-shifts_are : map read_shift VERTICAL_MODES.shifts ≡ map (λ place. shift_at (slice_get modes place)) MODE_PLACES
+shifts_are : map read_shift VERTICAL_MODES.shifts ≡ map (λ place. shift_at (slice_get modes place)) MODE_INDEXES
 unfolding modes
 shifts_are = refl
 
@@ -116,14 +116,14 @@ pub vertical_is_ahead : (number : ℕ) → number < 2 ^ 13
 vertical_is_ahead number within some =
     let at = number / 2 ^ 6 in
     let short : at < 128 = omega arith in
-    let len : get_or VERTICAL_MODES.lens at 0 ≡ len_at (slice_get modes (get_or MODE_PLACES at 0)) =
-    ap (λ xs. get_or xs at 0) lens_are ∙ get_or-map (λ place. len_at (slice_get modes place)) MODE_PLACES at 0 0 short
+    let len : get_or VERTICAL_MODES.lens at 0 ≡ len_at (slice_get modes (get_or MODE_INDEXES at 0)) =
+    ap (λ xs. get_or xs at 0) lens_are ∙ get_or-map (λ place. len_at (slice_get modes place)) MODE_INDEXES at 0 0 short
     in
     let shift : read_shift (get_or VERTICAL_MODES.shifts at (pos 0))
-    ≡ shift_at (slice_get modes (get_or MODE_PLACES at 0)) =
+    ≡ shift_at (slice_get modes (get_or MODE_INDEXES at 0)) =
     sym (get_or-map read_shift VERTICAL_MODES.shifts at (pos 0) (pos 0) short)
     ∙ ap (λ xs. get_or xs at (pos 0)) shifts_are
-    ∙ get_or-map (λ place. shift_at (slice_get modes place)) MODE_PLACES at 0 (pos 0) short in
+    ∙ get_or-map (λ place. shift_at (slice_get modes place)) MODE_INDEXES at 0 (pos 0) short in
     rw (len, shift)
-    (vertical_begins number (get_or MODE_PLACES at 0) _ (mode_place number within) refl
+    (vertical_begins number (get_or MODE_INDEXES at 0) _ (mode_place number within) refl
     (rw (len, shift) at some))

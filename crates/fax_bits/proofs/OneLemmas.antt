@@ -28,13 +28,14 @@ ones_after (suc n) high =
     ∙ ap (λ b. true ∷ b) (ones_after n (2 * high + 1))
 
 -- what n bits are that leave less than 2 ^ m up to the highest word
-high_ones : (word left n m : ℕ) → n + m ≡ 64 → left < 2 ^ m → word + left + 1 ≡ 2 ^ 64 → word / 2 ^ m ≡ 2 ^ n - 1
-high_ones word left n m parts few sum =
+high_ones : (word remaining n m : ℕ) → n + m ≡ 64 → remaining < 2 ^ m → word + remaining + 1 ≡ 2 ^ 64 → word / 2 ^ m
+    ≡ 2 ^ n - 1
+high_ones word remaining n m parts few sum =
     let power : 2 ^ 64 ≡ 2 ^ n * 2 ^ m = ap (λ k. 2 ^ k) (sym parts) ∙ pow-add 2 n m in
     let split : 2 ^ n * 2 ^ m ≡ (2 ^ n - 1) * 2 ^ m + 2 ^ m =
     ap (λ p. p * 2 ^ m) (one_more (2 ^ n) (pow_pos n)) ∙ one_time (2 ^ n - 1) (2 ^ m) in
-    let is : word ≡ (2 ^ n - 1) * 2 ^ m + (2 ^ m - 1 - left) = omega (arith, sum, power, split, few) in
-    ap (λ w. w / 2 ^ m) is ∙ shr_high (2 ^ n - 1) m (2 ^ m - 1 - left) (omega (arith, few))
+    let is : word ≡ (2 ^ n - 1) * 2 ^ m + (2 ^ m - 1 - remaining) = omega (arith, sum, power, split, few) in
+    ap (λ w. w / 2 ^ m) is ∙ shr_high (2 ^ n - 1) m (2 ^ m - 1 - remaining) (omega (arith, few))
   where
     one_more : (p : ℕ) → 0 < p → p ≡ p - 1 + 1
     one_more p some = omega arith
@@ -43,9 +44,10 @@ high_ones word left n m parts few sum =
     one_time p q = omega arith
 
 -- a word that ends with zeros is not so near to the highest one
-zeros_leave : (word left count m : ℕ) → count ≤ 64 → word < 2 ^ 64 → word % 2 ^ (64 - count) ≡ 0 → left < 2 ^ m
-    → word + left + 1 ≡ 2 ^ 64 → 64 - count ≤ m
-zeros_leave word left count m few fits zeros small sum =
+zeros_leave : (word remaining count m : ℕ) → count ≤ 64 → word < 2 ^ 64 → word % 2 ^ (64 - count) ≡ 0
+    → remaining < 2 ^ m
+    → word + remaining + 1 ≡ 2 ^ 64 → 64 - count ≤ m
+zeros_leave word remaining count m few fits zeros small sum =
     let number = word / 2 ^ (64 - count) in
     let parts : count + (64 - count) ≡ 64 = omega arith in
     let power : 2 ^ 64 ≡ 2 ^ count * 2 ^ (64 - count) = ap (λ k. 2 ^ k) (sym parts) ∙ pow-add 2 count (64 - count) in
@@ -61,22 +63,22 @@ pub ones_before : (count word n : ℕ) (more : List Bool) → count ≤ 64 → w
     → n ≡ count_leading_zeros 64 (2 ^ 64 - 1 - word)
     → n ≤ count → take n (first_bits count word ++ more) ≡ replicate n true
 ones_before count word n more few fits is within =
-    let left = 2 ^ 64 - 1 - word in
-    let size = leading_length 64 left (omega arith) in
+    let remaining = 2 ^ 64 - 1 - word in
+    let size = leading_length 64 remaining (omega arith) in
     let parts : n + size.0 ≡ 64 = omega (arith, is, size.1) in
     let place : 64 - n ≡ size.0 = omega arith in
     let zero_high : 2 ^ n - 1 ≡ 0 * 2 ^ n + (2 ^ n - 1) = omega arith in
     next_bits count word n more few within fits ∙ ap (code_bits n) (ap (λ k. word / 2 ^ k) place
-    ∙ high_ones word left n size.0 parts size.2 (omega (arith, fits)) ∙ zero_high) ∙ ones_after n 0
+    ∙ high_ones word remaining n size.0 parts size.2 (omega (arith, fits)) ∙ zero_high) ∙ ones_after n 0
 
 pub ones_loaded : (count word n : ℕ) → count ≤ 64 → word < 2 ^ 64 → word % 2 ^ (64 - count) ≡ 0
     → n ≡ count_leading_zeros 64 (2 ^ 64 - 1 - word) → n ≤ count
 ones_loaded count word n few fits zeros is =
-    let left = 2 ^ 64 - 1 - word in
-    let size = leading_length 64 left (omega arith) in
+    let remaining = 2 ^ 64 - 1 - word in
+    let size = leading_length 64 remaining (omega arith) in
     omega (
       arith,
       is,
       size.1,
-      zeros_leave word left count size.0 few fits zeros size.2 (omega (arith, fits)),
+      zeros_leave word remaining count size.0 few fits zeros size.2 (omega (arith, fits)),
     )

@@ -6,7 +6,7 @@ use Rattle.std.specs.Prelude.{◌⊎◌, Contains}
 use Rattle.std.proofs.lemmas.List.{append_cancel_left}
 use Rattle.std.proofs.lemmas.Option.{slice_get_read}
 use Rattle.fax_bits.specs.declared.codes.CodeEntry.{CodeEntry}
-use Rattle.fax_bits.specs.Codes.{bits_of, Takes}
+use Rattle.fax_bits.specs.Codes.{bits_of, Decodes}
 use Rattle.fax_bits.specs.views.Codes.{HasShortCodes, IsPrefixFree}
 use Rattle.fax_bits.specs.laws.Codes.{HasOneAnswer, TakesBits}
 use Rattle.fax_bits.proofs.CodeBitsLemmas.{length-code_bits}
@@ -24,7 +24,7 @@ one_starts_the_other (x ∷ a) (y ∷ b) r s is =
     ]
 
 took_same : {M : Type 0} (table : List (CodeEntry M)) (b : List Bool) (meaning other : M) (rest remaining : List Bool)
-    → (first : Takes table b meaning rest) → (second : Takes table b other remaining) → first.entry ≡ second.entry
+    → (first : Decodes table b meaning rest) → (second : Decodes table b other remaining) → first.entry ≡ second.entry
     → (meaning ≡ other) × (rest ≡ remaining)
 took_same table b meaning other rest remaining first second same = grind (arith, common_steps, append_cancel_left)
 
@@ -34,7 +34,7 @@ same_entry : {M : Type 0} (table : List (CodeEntry M)) (entry other : CodeEntry 
     → Contains table entry → Contains table other → bits_of other ≡ bits_of entry ++ more → entry ≡ other
 same_entry table entry other more free here there is = grind (arith, common_steps, slice_get_read)
 
-pub takes_one : {M : Type 0} (table : List (CodeEntry M)) → IsPrefixFree table → HasOneAnswer (Takes table)
+pub takes_one : {M : Type 0} (table : List (CodeEntry M)) → IsPrefixFree table → HasOneAnswer (Decodes table)
 takes_one table free b meaning other rest remaining first second =
     elim (one_starts_the_other (bits_of first.entry) (bits_of second.entry) rest remaining
     (sym first.spelled ∙ second.spelled)) [

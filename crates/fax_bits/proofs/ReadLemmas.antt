@@ -6,7 +6,7 @@ use Rattle.std.proofs.Math.Seq.{take-append-add}
 use Rattle.std.proofs.lemmas.List.{take-append-drop}
 use Rattle.fax_bits.specs.declared.codes.CodeEntry.{CodeEntry}
 use Rattle.fax_bits.specs.Bits.{bits_number, code_bits}
-use Rattle.fax_bits.specs.Codes.{bits_of, HasNoCode, Takes}
+use Rattle.fax_bits.specs.Codes.{bits_of, HasNoCode, Decodes}
 use Rattle.std.specs.Prelude.{Contains}
 use Rattle.fax_bits.proofs.ReadingLemmas.{IsCutBy}
 use Rattle.fax_bits.specs.views.Codes.{HasCodeAhead, HasShortCodes}
@@ -16,28 +16,29 @@ use Rattle.fax_bits.proofs.PeekLemmas.{padded, bits_number-lt}
 use Rattle.fax_bits.proofs.TableLemmas.{left_after}
 
 -- the next n bits, where there are so many
-module _ (left : List Bool) (n : ℕ) (all : n ≤ length left) where
-  length-next : length (take n left) ≡ n
-  length-next = length-take n left ∙ omega arith
+module _ (remaining : List Bool) (n : ℕ) (all : n ≤ length remaining) where
+  length-next : length (take n remaining) ≡ n
+  length-next = length-take n remaining ∙ omega arith
 
-  pub peeked_bits : (number : ℕ) → number ≡ bits_number (take n (padded left n)) → code_bits n number ≡ take n left
+  pub peeked_bits : (number : ℕ) → number ≡ bits_number (take n (padded remaining n)) → code_bits n number
+      ≡ take n remaining
   peeked_bits number is = grind (arith, common_steps, length-next, code_bits-number)
 
-  pub peeked-below : (number : ℕ) → number ≡ bits_number (take n (padded left n)) → number < 2 ^ n
+  pub peeked-below : (number : ℕ) → number ≡ bits_number (take n (padded remaining n)) → number < 2 ^ n
   peeked-below number is = grind (arith, common_steps, bits_number-lt)
 
 -- a code that begins the next bits is taken
-pub takes_found : {M : Type 0} {table : List (CodeEntry M)} {left b : List Bool} (n : ℕ) {len : ℕ} {meaning : M}
-    → b ≡ take n left
-    → HasCodeAhead table b len meaning → Takes table left meaning (drop len left)
-takes_found {left = left} n {len = len} next found = record {
+pub takes_found : {M : Type 0} {table : List (CodeEntry M)} {remaining b : List Bool} (n : ℕ) {len : ℕ} {meaning : M}
+    → b ≡ take n remaining
+    → HasCodeAhead table b len meaning → Decodes table remaining meaning (drop len remaining)
+takes_found {remaining = remaining} n {len = len} next found = record {
   entry = found.entry;
   listed = found.listed;
   means = found.means;
   spelled =
-      left_after left (bits_of found.entry) (found.ahead.0 ++ drop n left) len
-      (sym (take-append-drop n left) ∙ ap (λ xs. xs ++ drop n left) (sym next ∙ found.ahead.1)
-      ∙ append_assoc (bits_of found.entry) found.ahead.0 (drop n left))
+      left_after remaining (bits_of found.entry) (found.ahead.0 ++ drop n remaining) len
+      (sym (take-append-drop n remaining) ∙ ap (λ xs. xs ++ drop n remaining) (sym next ∙ found.ahead.1)
+      ∙ append_assoc (bits_of found.entry) found.ahead.0 (drop n remaining))
       (length-code_bits found.entry.len found.entry.code ∙ found.length);
 }
 
@@ -53,11 +54,13 @@ found_is_short n number found =
     )
 
 -- none begins the bits where none begins the next ones: 13, or all of them
-pub none_begins : {M : Type 0} (table : List (CodeEntry M)) {left b : List Bool} {n : ℕ} → HasShortCodes table
-    → n ≤ length left
-    → ((k : ℕ) → k ≤ 13 → k ≤ length left → k ≤ n) → b ≡ take n left → HasNoCode table b → HasNoCode table left
-none_begins table {left = left} {n = n} short within all next none entry here ahead =
-    let in_next : entry.len ≤ n = all entry.len (short entry here).1 (ahead_fits entry.len entry.code left ahead) in
+pub none_begins : {M : Type 0} (table : List (CodeEntry M)) {remaining b : List Bool} {n : ℕ} → HasShortCodes table
+    → n ≤ length remaining
+    → ((k : ℕ) → k ≤ 13 → k ≤ length remaining → k ≤ n) → b ≡ take n remaining → HasNoCode table b
+    → HasNoCode table remaining
+none_begins table {remaining = remaining} {n = n} short within all next none entry here ahead =
+    let in_next : entry.len ≤ n = all entry.len (short entry here).1 (ahead_fits entry.len entry.code remaining ahead)
+    in
     let e : n ≡ length (bits_of entry) + (n - entry.len) = omega (arith, length-code_bits entry.len entry.code) in
     none entry here (
       take (n - entry.len) ahead.0,
@@ -66,14 +69,15 @@ none_begins table {left = left} {n = n} short within all next none entry here ah
     )
 
 -- 13 bits end within no code
-pub not_cut : {M : Type 0} (table : List (CodeEntry M)) (left : List Bool) → HasShortCodes table → 13 ≤ length left
-    → (entry : CodeEntry M) → Contains table entry → IsCutBy (bits_of entry) left → ⊥
-not_cut table left short long entry listed cut =
+pub not_cut : {M : Type 0} (table : List (CodeEntry M)) (remaining : List Bool) → HasShortCodes table
+    → 13 ≤ length remaining
+    → (entry : CodeEntry M) → Contains table entry → IsCutBy (bits_of entry) remaining → ⊥
+not_cut table remaining short long entry listed cut =
     omega (
       arith,
       long,
       (short entry listed).1,
       length-code_bits entry.len entry.code,
-      length-append left (cut.0 ∷ cut.1),
+      length-append remaining (cut.0 ∷ cut.1),
       ap length cut.2,
     )

@@ -6,7 +6,7 @@ use Rattle.std.specs.Prelude.{Some, slice_get}
 use Rattle.fax_bits.specs.declared.codes.CodeEntry.{CodeEntry}
 use Rattle.fax_bits.specs.declared.Colour.{Colour}
 use Rattle.fax_bits.specs.declared.run_codes.RunCode.TheVariants.{Terminating, MakeUp}
-use Rattle.fax_bits.specs.Codes.{bits_of, Takes}
+use Rattle.fax_bits.specs.Codes.{bits_of, Decodes}
 use Rattle.fax_bits.specs.code.Codes.{bits_at, run_meaning}
 use Rattle.fax_bits.specs.Written.{same_run_code, code_for, run_code_bits}
 use Rattle.fax_bits.specs.Tables.{run_table}
@@ -51,7 +51,7 @@ bits_at-run_table colour place within =
 
 -- bits that begin with a run code
 pub takes_run_code : (colour : Colour) (place : ℕ) (more : List Bool) → place < 105
-    → Takes (run_table colour) (run_code_bits colour (run_meaning place) ++ more) (run_meaning place) more
+    → Decodes (run_table colour) (run_code_bits colour (run_meaning place) ++ more) (run_meaning place) more
 takes_run_code colour place more within =
     let found = run_entry_at colour place within in
     record {

@@ -8,7 +8,7 @@ use Rattle.fax_bits.specs.declared.codes.CodeEntry.{CodeEntry}
 use Rattle.fax_bits.specs.declared.Colour.{Colour}
 use Rattle.fax_bits.specs.declared.run_codes.RunCode.{RunCode}
 use Rattle.fax_bits.specs.declared.run_codes.RunCode.TheVariants.{Terminating, MakeUp}
-use Rattle.fax_bits.specs.Codes.{Spells, IsRun}
+use Rattle.fax_bits.specs.Codes.{DecodesAll, IsRun}
 use Rattle.fax_bits.specs.laws.Codes.{HasOneAnswer, RunBitsAreRead, RunBitsAreOneRun}
 use Rattle.fax_bits.specs.Written.{run_code_bits, run_codes, run_bits}
 use Rattle.fax_bits.specs.code.Codes.{one_make_up, run_meaning}
@@ -20,48 +20,50 @@ use Rattle.fax_bits.proofs.RunCodeLemmas.{takes_run_code, run_meaning-terminatin
 -- ---- a run that is written is read again
 
 spells-append : {M : Type 0} (table : List (CodeEntry M)) (b middle rest : List Bool) (codes others : List M)
-    → Spells table b codes middle → Spells table middle others rest → Spells table b (codes ++ others) rest
-spells-append table b middle rest [] others first second = subst (λ x. Spells table x others rest) (sym first) second
+    → DecodesAll table b codes middle → DecodesAll table middle others rest → DecodesAll table b (codes ++ others) rest
+spells-append table b middle rest [] others first second = subst (λ x. DecodesAll table x others rest) (sym first)
+    second
 spells-append table b middle rest (code ∷ codes) others first second =
     (first.0, first.1, spells-append table first.0 middle rest codes others first.2 second)
 
 spells_one : (colour : Colour) (place : ℕ) (code : RunCode) (more : List Bool) → place < 105 → run_meaning place ≡ code
-    → Spells (run_table colour) (run_code_bits colour code ++ more) (code ∷ []) more
+    → DecodesAll (run_table colour) (run_code_bits colour code ++ more) (code ∷ []) more
 spells_one colour place code more within is = grind (arith, takes_run_code)
 
 spells_terminating : (colour : Colour) (n : ℕ) (more : List Bool) → n < 64
-    → Spells (run_table colour) (run_code_bits colour (Terminating n) ++ more) (Terminating n ∷ []) more
+    → DecodesAll (run_table colour) (run_code_bits colour (Terminating n) ++ more) (Terminating n ∷ []) more
 spells_terminating colour n more short = spells_one colour n (Terminating n) more (omega arith)
     (run_meaning-terminating n short)
 
 spells_make_up : (colour : Colour) (steps : ℕ) (more : List Bool) → 0 < steps → steps ≤ 40
-    → Spells (run_table colour) (run_code_bits colour (MakeUp (64 * steps)) ++ more) (MakeUp (64 * steps) ∷ []) more
+    → DecodesAll (run_table colour) (run_code_bits colour (MakeUp (64 * steps)) ++ more) (MakeUp (64 * steps) ∷ []) more
 spells_make_up colour steps more some few =
     spells_one colour (63 + steps) (MakeUp (64 * steps)) more (omega arith) (run_meaning-make_up steps some few)
 
 spells_often : (colour : Colour) (q : ℕ) (more : List Bool)
-    → Spells (run_table colour) (flat_map (run_code_bits colour) (replicate q (MakeUp 2560)) ++ more)
+    → DecodesAll (run_table colour) (flat_map (run_code_bits colour) (replicate q (MakeUp 2560)) ++ more)
     (replicate q (MakeUp 2560)) more
 spells_often colour zero more = refl
 spells_often colour (suc q) more =
     let f = run_code_bits colour in
     let rest = flat_map f (replicate q (MakeUp 2560)) ++ more in
-    let first : Spells (run_table colour) (f (MakeUp 2560) ++ rest) (MakeUp 2560 ∷ []) rest =
+    let first : DecodesAll (run_table colour) (f (MakeUp 2560) ++ rest) (MakeUp 2560 ∷ []) rest =
     spells_make_up colour 40 rest (omega arith) (omega arith) in
-    subst (λ b. Spells (run_table colour) b (MakeUp 2560 ∷ replicate q (MakeUp 2560)) more)
+    subst (λ b. DecodesAll (run_table colour) b (MakeUp 2560 ∷ replicate q (MakeUp 2560)) more)
     (sym (append_assoc (f (MakeUp 2560)) (flat_map f (replicate q (MakeUp 2560))) more))
     (spells-append (run_table colour) (f (MakeUp 2560) ++ rest) rest more (MakeUp 2560 ∷ []) (replicate q (MakeUp 2560))
     first
     (spells_often colour q more))
 
 spells_rest : (colour : Colour) (steps : ℕ) (more : List Bool) → steps ≤ 40
-    → Spells (run_table colour) (flat_map (run_code_bits colour) (one_make_up steps) ++ more) (one_make_up steps) more
+    → DecodesAll (run_table colour) (flat_map (run_code_bits colour) (one_make_up steps)
+    ++ more) (one_make_up steps) more
 spells_rest colour zero more few = refl
 spells_rest colour (suc k) more few = grind (arith, common_steps, spells_make_up)
 
 -- codes that are spelled by their own bits, whatever follows them
 abbrev SpelledByOwn : Colour → List RunCode → Type 0
-SpelledByOwn colour codes = (more : List Bool) → Spells (run_table colour)
+SpelledByOwn colour codes = (more : List Bool) → DecodesAll (run_table colour)
     (flat_map (run_code_bits colour) codes ++ more) codes more
 
 spelled-both : (colour : Colour) (codes others : List RunCode) → SpelledByOwn colour codes → SpelledByOwn colour others
@@ -70,7 +72,7 @@ spelled-both colour codes others first second more = grind (arith, common_steps,
 
 spelled-terminating : (colour : Colour) (n : ℕ) → n < 64 → SpelledByOwn colour (Terminating n ∷ [])
 spelled-terminating colour n short more =
-    subst (λ b. Spells (run_table colour) (b ++ more) (Terminating n ∷ []) more)
+    subst (λ b. DecodesAll (run_table colour) (b ++ more) (Terminating n ∷ []) more)
     (sym (append-nil (run_code_bits colour (Terminating n))))
     (spells_terminating colour n more short)
 
@@ -99,7 +101,7 @@ run_bits_are_read colour n more few = record {
   make_up = replicate (n / 2560) 2560 ++ rest_pels (n % 2560 / 64);
   last = n % 64;
   spelled =
-      subst (λ codes. Spells (run_table colour) (run_bits colour n ++ more) codes more) (sym (codes_are n))
+      subst (λ codes. DecodesAll (run_table colour) (run_bits colour n ++ more) codes more) (sym (codes_are n))
       (spelled-run colour n more);
   length = sym (pels_are n);
 }
@@ -108,8 +110,8 @@ run_bits_are_read colour n more few = record {
 
 -- two readings of a run
 same_run : (colour : Colour) (b : List Bool) (pels others : List ℕ) (last end : ℕ) (rest remaining : List Bool)
-    → Spells (run_table colour) b (map MakeUp pels ++ Terminating last ∷ []) rest
-    → Spells (run_table colour) b (map MakeUp others ++ Terminating end ∷ []) remaining
+    → DecodesAll (run_table colour) b (map MakeUp pels ++ Terminating last ∷ []) rest
+    → DecodesAll (run_table colour) b (map MakeUp others ++ Terminating end ∷ []) remaining
     → (pels ≡ others) × (last ≡ end) × (rest ≡ remaining)
 same_run colour b [] [] last end rest remaining first second =
     let same = takes_one (run_table colour) (run_table_is_prefix_free colour) b _ _ _ _ first.1 second.1 in
@@ -124,7 +126,7 @@ same_run colour b (n ∷ pels) (m ∷ others) last end rest remaining first seco
     let same = takes_one (run_table colour) (run_table_is_prefix_free colour) b _ _ _ _ first.1 second.1 in
     let here : n ≡ m = cc (same.0) in
     let after = same_run colour first.0 pels others last end rest remaining first.2
-    (subst (λ x. Spells (run_table colour) x (map MakeUp others ++ Terminating end ∷ []) remaining) (sym same.1)
+    (subst (λ x. DecodesAll (run_table colour) x (map MakeUp others ++ Terminating end ∷ []) remaining) (sym same.1)
     second.2) in
     (cc (here, after.0), after.1, after.2)
 

@@ -123,13 +123,13 @@ all_whole order bytes count pending sink is whole short =
     sym (none_pending MsbFirst bytes count pending none) ∙ ap (λ (s : Sink). s.bits) is
 
 -- and of one whose pending bits were pushed
-pub all_pushed : (order : FillOrder) (bytes pushed : List ℕ) (count pending left rest : ℕ) (sink : Sink)
+pub all_pushed : (order : FillOrder) (bytes pushed : List ℕ) (count pending remaining rest : ℕ) (sink : Sink)
     → sink_of order bytes count pending
     ≡ sink
-    → bits MsbFirst pushed ++ code_bits left rest ≡ bits MsbFirst bytes ++ code_bits count pending
-    → length sink.bits % 8 ≡ 0 → left < 8 → bits MsbFirst pushed ≡ sink.bits
-all_pushed order bytes pushed count pending left rest sink is same whole short =
-    all_whole order pushed left rest sink (ap (λ b. record { order = order; bits = b }) same ∙ is) whole short
+    → bits MsbFirst pushed ++ code_bits remaining rest ≡ bits MsbFirst bytes ++ code_bits count pending
+    → length sink.bits % 8 ≡ 0 → remaining < 8 → bits MsbFirst pushed ≡ sink.bits
+all_pushed order bytes pushed count pending remaining rest sink is same whole short =
+    all_whole order pushed remaining rest sink (ap (λ b. record { order = order; bits = b }) same ∙ is) whole short
 
 -- bits that are put after the pending ones of a sink
 pub put_after : (order : FillOrder) (bytes : List ℕ) (count pending len number : ℕ) (old : Sink) → pending < 2 ^ count

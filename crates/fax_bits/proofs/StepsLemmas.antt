@@ -6,13 +6,14 @@ use Rattle.fax_bits.specs.Reading.{Step, onward, done, stopped, step_by, and_mor
 -- what is gone on with
 pub bind_read : {A B F : Type 0} (r : Read A F) (next : A → List Bool → Read B F) (y : B) (rest : List Bool)
     → (r >>= next) ≡ read y rest
-    → (x : A) × (left : List Bool) × (r ≡ read x left) × (next x left ≡ read y rest)
-bind_read (read x left) next y rest is = (x, left, refl, is)
+    → (x : A) × (remaining : List Bool) × (r ≡ read x remaining) × (next x remaining ≡ read y rest)
+bind_read (read x remaining) next y rest is = (x, remaining, refl, is)
 bind_read (failed fault) next y rest is = absurd cc
 
 -- where it is known what is read
-pub goes : {A B F : Type 0} {r : Read A F} {x : A} {left : List Bool} {y : Read B F} (next : A → List Bool → Read B F)
-    → r ≡ read x left → next x left ≡ y
+pub goes : {A B F : Type 0} {r : Read A F} {x : A} {remaining : List Bool} {y : Read B F} (next : A → List Bool
+    → Read B F)
+    → r ≡ read x remaining → next x remaining ≡ y
     → (r >>= next) ≡ y
 goes next at is = ap (λ r. r >>= next) at ∙ is
 
@@ -23,9 +24,9 @@ fails next at = ap (λ r. r >>= next) at
 -- another name for a fault hides nothing of what is read
 pub named_read : {A F G : Type 0} (name : F → G) (r : Read A F) (x : A) (rest : List Bool)
     → map_fault name r ≡ read x rest → r ≡ read x rest
-named_read name (read y left) x rest is =
+named_read name (read y remaining) x rest is =
     let same : y ≡ x = cc (is) in
-    let last : left ≡ rest = cc (is) in
+    let last : remaining ≡ rest = cc (is) in
     cc (same, last)
 named_read name (failed fault) x rest is = absurd cc
 
@@ -35,26 +36,26 @@ pub one_answer : {A F : Type 0} {x y : A} {b rest : List Bool} {r : Read A F} �
 one_answer first second = (cc (first, second), cc (first, second))
 
 -- a step whose first part is known
-pub step_on : {S A B F : Type 0} {r : Read A F} {x : A} {left : List Bool} {s : Step S B F}
+pub step_on : {S A B F : Type 0} {r : Read A F} {x : A} {remaining : List Bool} {s : Step S B F}
     (next : A → List Bool → Step S B F)
-    → r ≡ read x left → next x left ≡ s → step_by next r ≡ s
+    → r ≡ read x remaining → next x remaining ≡ s → step_by next r ≡ s
 step_on next at is = ap (step_by next) at ∙ is
 
 pub step_fails : {S A B F : Type 0} {r : Read A F} {fault : F} (next : A → List Bool → Step S B F)
     → r ≡ failed fault → step_by next r ≡ stopped fault
 step_fails next at = ap (step_by next) at
 
--- and what its first part was, where it goes on or ends
+-- and what its first part was, where it continues or ends
 pub step_onward : {S A B F : Type 0} (r : Read A F) (next : A → List Bool → Step S B F) (at : S) (rest : List Bool)
     → step_by next r ≡ onward at rest
-    → (x : A) × (left : List Bool) × (r ≡ read x left) × (next x left ≡ onward at rest)
-step_onward (read x left) next at rest is = (x, left, refl, is)
+    → (x : A) × (remaining : List Bool) × (r ≡ read x remaining) × (next x remaining ≡ onward at rest)
+step_onward (read x remaining) next at rest is = (x, remaining, refl, is)
 step_onward (failed fault) next at rest is = absurd cc
 
 pub step_done : {S A B F : Type 0} (r : Read A F) (next : A → List Bool → Step S B F) (answer : B) (rest : List Bool)
     → step_by next r ≡ done answer rest
-    → (x : A) × (left : List Bool) × (r ≡ read x left) × (next x left ≡ done answer rest)
-step_done (read x left) next answer rest is = (x, left, refl, is)
+    → (x : A) × (remaining : List Bool) × (r ≡ read x remaining) × (next x remaining ≡ done answer rest)
+step_done (read x remaining) next answer rest is = (x, remaining, refl, is)
 step_done (failed fault) next answer rest is = absurd cc
 
 module _ {S A F : Type 0} (fault : F) (step : S → List Bool → Step S A F)
@@ -96,23 +97,25 @@ module _ {S A F : Type 0} (fault : F) (step : S → List Bool → Step S A F)
   module _ (R : S → List Bool → A → List Bool → Type 0)
       (last : (at : S) (b : List Bool) (answer : A) (rest : List Bool) → step at b ≡ done answer rest
       → R at b answer rest)
-      (before : (at next : S) (b left : List Bool) (answer : A) (rest : List Bool) → step at b ≡ onward next left
-      → R next left answer rest
+      (before : (at next : S) (b remaining : List Bool) (answer : A) (rest : List Bool) → step at b
+      ≡ onward next remaining
+      → R next remaining answer rest
       → R at b answer rest) where
     holds_within : (limit : ℕ) (at : S) (b : List Bool) (answer : A) (rest : List Bool)
         → steps_within fault step limit at b ≡ read answer rest → R at b answer rest
     holds_within zero at b answer rest is = absurd cc
     holds_within (suc limit) at b answer rest is =
-        by (step at b) refl is (λ next left more. holds_within limit next left answer rest more)
+        by (step at b) refl is (λ next remaining more. holds_within limit next remaining answer rest more)
       where
         by : (s : Step S A F) → step at b ≡ s
-            → and_more (λ next left. steps_within fault step limit next left) s ≡ read answer rest
-            → ((next : S) (left : List Bool) → steps_within fault step limit next left ≡ read answer rest
-            → R next left answer rest)
+            → and_more (λ next remaining. steps_within fault step limit next remaining) s ≡ read answer rest
+            → ((next : S) (remaining : List Bool) → steps_within fault step limit next remaining ≡ read answer rest
+            → R next remaining answer rest)
             → R at b answer rest
         by (stopped why) this same more = absurd cc
-        by (done found left) this same more = last at b answer rest cc
-        by (onward next left) this same more = before at next b left answer rest this (more next left same)
+        by (done found remaining) this same more = last at b answer rest cc
+        by (onward next remaining) this same more = before at next b remaining answer rest this (more next remaining
+            same)
 
     pub holds : (at : S) (b : List Bool) (answer : A) (rest : List Bool) → steps fault step at b ≡ read answer rest
         → R at b answer rest

@@ -22,6 +22,6 @@ pub each-from_below : {M : Type 0} (P : CodeEntry M → Type 0) (table : List (C
 each-from_below P table i all below entry at = grind (arith, slice_get_read)
 
 -- the bits after a code that was skipped
-pub left_after : (left code rest : List Bool) (n : ℕ) → left ≡ code ++ rest → length code ≡ n
-    → left ≡ code ++ drop n left
-left_after left code rest n ahead len = grind (arith, common_steps)
+pub left_after : (remaining code rest : List Bool) (n : ℕ) → remaining ≡ code ++ rest → length code ≡ n
+    → remaining ≡ code ++ drop n remaining
+left_after remaining code rest n ahead len = grind (arith, common_steps)

@@ -8,7 +8,7 @@ use Rattle.std.proofs.lemmas.Bool.{and_parts, cases_Bool}
 use Rattle.std.proofs.lemmas.Nat.{pow-add, pow_pos, shl_below, shl-shr}
 use Rattle.std.proofs.Math.Nat.{div-div-eq-div-mul}
 use Rattle.fax_bits.specs.declared.codes.CodeEntry.{CodeEntry}
-use Rattle.fax_bits.specs.Bits.{code_bits, BeginsWith}
+use Rattle.fax_bits.specs.Bits.{code_bits, StartsWith}
 use Rattle.fax_bits.specs.Codes.{bits_of, HasNoCode}
 use Rattle.fax_bits.specs.views.Codes.{HasCodeAhead, HasShortCodes, IsPrefixFree}
 use Rattle.fax_bits.specs.code.CodePlaces.{begins, place_after, place_of}
@@ -28,10 +28,10 @@ pub begins_from : {M : Type 0} (entry : CodeEntry M) (width number : ℕ) → en
 begins_from entry width number short is = grind (arith, common_steps)
 
 -- the place of the first entry, by what it is
-first_place : {M : Type 0} (first : CodeEntry M) (table : List (CodeEntry M)) (width number : ℕ)
+first_index : {M : Type 0} (first : CodeEntry M) (table : List (CodeEntry M)) (width number : ℕ)
     → begins first width number ≡ true
     → place_of (first ∷ table) width number ≡ zero
-first_place first table width number h = ap (λ b. place_after b (place_of table width number)) h
+first_index first table width number h = ap (λ b. place_after b (place_of table width number)) h
 
 later_place : {M : Type 0} (first : CodeEntry M) (table : List (CodeEntry M)) (width number : ℕ)
     → begins first width number ≡ false
@@ -64,15 +64,15 @@ past_begins_none : {M : Type 0} (table : List (CodeEntry M)) (width number : ℕ
     → length table ≤ place_of table width number
     → (k : ℕ) (entry : CodeEntry M) → k < length table → get_or table k entry ≡ entry → begins entry width number ≡ true
     → ⊥
-past_begins_none [] width number past k entry within is begun = absurd (omega arith)
-past_begins_none (first ∷ table) width number past zero entry within is begun = grind (arith, common_steps)
-past_begins_none (first ∷ table) width number past (suc k) entry within is begun =
+past_begins_none [] width number past k entry within is origin = absurd (omega arith)
+past_begins_none (first ∷ table) width number past zero entry within is origin = grind (arith, common_steps)
+past_begins_none (first ∷ table) width number past (suc k) entry within is origin =
     elim (cases_Bool (begins first width number)) [
-      | inl here ↦ omega (arith, past, first_place first table width number here)
+      | inl here ↦ omega (arith, past, first_index first table width number here)
       | inr other ↦
           past_begins_none table width number (omega (arith, past, later_place first table width number other)) k entry
           (omega arith) is
-          begun
+          origin
     ]
 
 -- each code that is longer than `short` bits begins only numbers of 13 bits below `low`
@@ -142,8 +142,8 @@ aligned_bits n window few =
     ∙ code_bits-add n (13 - n) window 0 (pow_pos (13 - n))
 
 -- what begins n bits begins them with zeros after
-aligned_ahead : (n window len code : ℕ) → n ≤ 13 → BeginsWith (code_bits n window) (code_bits len code)
-    → BeginsWith (code_bits 13 (window * 2 ^ (13 - n))) (code_bits len code)
+aligned_ahead : (n window len code : ℕ) → n ≤ 13 → StartsWith (code_bits n window) (code_bits len code)
+    → StartsWith (code_bits 13 (window * 2 ^ (13 - n))) (code_bits len code)
 aligned_ahead n window len code few ahead = (
   ahead.0 ++ code_bits (13 - n) 0,
   aligned_bits n window few ∙ ap (λ b. b ++ code_bits (13 - n) 0) ahead.1
@@ -155,7 +155,7 @@ module _ {M : Type 0} (table : List (CodeEntry M)) (short : HasShortCodes table)
     (few : n ≤ 13)
     (fits : window < 2 ^ n) (place_is : place ≡ place_of table 13 (window * 2 ^ (13 - n))) where
   -- an entry that begins n bits
-  ahead_begins : (entry : CodeEntry M) → Contains table entry → BeginsWith (code_bits n window) (bits_of entry)
+  ahead_begins : (entry : CodeEntry M) → Contains table entry → StartsWith (code_bits n window) (bits_of entry)
       → begins entry 13 (window * 2 ^ (13 - n)) ≡ true
   ahead_begins entry here ahead =
       let within : entry.len ≤ n = ahead_is_short n window entry.len entry.code ahead in
@@ -221,7 +221,7 @@ found_by_place table short free n window place few fits place_is entry at None l
 found_by_place table short free n window place few fits place_is entry at (Some found) is =
     grind (arith, place_found, aligned_is)
 
--- where the place is past the table, it answers none
+-- where the place is past the table, it returns none
 pub none_by_place : {M : Type 0} (table : List (CodeEntry M)) → HasShortCodes table → IsPrefixFree table
     → (n window place : ℕ) → n ≤ 13
     → window < 2 ^ n → place ≡ place_of table 13 (window * 2 ^ (13 - n) % 2 ^ 32) → length table ≤ place

@@ -11,7 +11,7 @@ use Rattle.std.proofs.lemmas.List.{append_cancel_left, take-append-le, take-appe
 use Rattle.std.proofs.Math.Seq.{take-length}
 use Rattle.std.proofs.lemmas.List.Concat.{flat_map-append}
 use Rattle.fax_bits.specs.declared.FillOrder.TheVariants.{MsbFirst}
-use Rattle.fax_bits.specs.Bits.{bits, byte_bits, code_bits, BeginsWith, bits_number}
+use Rattle.fax_bits.specs.Bits.{bits, byte_bits, code_bits, StartsWith, bits_number}
 use Rattle.fax_bits.proofs.SinkLemmas.{bits-push, byte_bits-msb}
 use Rattle.fax_bits.specs.views.Source.{IsTaken}
 use Rattle.fax_bits.proofs.NumberLemmas.{code_bits-number, number-code_bits}
@@ -29,32 +29,32 @@ spelled b len number enough spells =
     sym (take-append-drop len b) ∙ ap (λ c. c ++ drop len b) (sym front)
 
 -- bits that begin with those of a number are as many, and spell it
-pub as_many : (b : List Bool) (len number : ℕ) → BeginsWith b (code_bits len number) → len ≤ length b
+pub as_many : (b : List Bool) (len number : ℕ) → StartsWith b (code_bits len number) → len ≤ length b
 as_many b len number begins = grind (arith, length-append, length-code_bits)
 
-pub spells_it : (b : List Bool) (len number : ℕ) → number < 2 ^ len → BeginsWith b (code_bits len number)
+pub spells_it : (b : List Bool) (len number : ℕ) → number < 2 ^ len → StartsWith b (code_bits len number)
     → bits_number (take len (padded b len)) ≡ number
 spells_it b len number fits begins = grind (arith, common_steps, length-code_bits, number-code_bits)
 
 -- whether bits begin with these, after those that both begin with
-pub begins_after : (b c front more : List Bool) → b ≡ front ++ c → BeginsWith c more ↔ BeginsWith b (front ++ more)
+pub begins_after : (b c front more : List Bool) → b ≡ front ++ c → StartsWith c more ↔ StartsWith b (front ++ more)
 begins_after b c front more is = grind (arith, common_steps, append_cancel_left)
 
 pub taken_iff : (front b : List Bool) (result : Bool) (rest : List Bool) → IsTaken front b result rest
-    → IsTrue result ↔ BeginsWith b front
+    → IsTrue result ↔ StartsWith b front
 taken_iff front b result rest taken = grind arith
 
 -- whether bits begin with two parts, the first of which stands next
 pub both_taken : (b middle front back : List Bool) (result : Bool) (rest : List Bool) → b ≡ front ++ middle
     → IsTaken back middle result rest
-    → IsTrue result ↔ BeginsWith b (front ++ back)
+    → IsTrue result ↔ StartsWith b (front ++ back)
 both_taken b middle front back result rest is taken =
     let here = taken_iff back middle result rest taken in
     let whole = begins_after b middle front back is in
     (λ yes. whole.0 (here.0 yes), λ begins. here.1 (whole.1 begins))
 
 -- and where it does not
-pub first_other : (b front back : List Bool) → (BeginsWith b front → ⊥) → BeginsWith b (front ++ back) → ⊥
+pub first_other : (b front back : List Bool) → (StartsWith b front → ⊥) → StartsWith b (front ++ back) → ⊥
 first_other b front back other begins = other (back ++ begins.0, begins.1 ∙ append_assoc front back begins.0)
 
 -- a number in two parts
@@ -93,7 +93,7 @@ module _ (bytes : List ℕ) (i : ℕ) (source ahead : List Bool) (so_far : sourc
     next_byte byte rest within byte_is taken = grind (arith, common_steps, byte_bits-msb, bits-push)
 
     pub other_byte : (byte : ℕ) (pending : List Bool) → i < length bytes → byte ≡ get_or bytes i 0
-        → (BeginsWith ahead (code_bits 8 byte) → ⊥) → BeginsWith source (bits MsbFirst bytes ++ pending) → ⊥
+        → (StartsWith ahead (code_bits 8 byte) → ⊥) → StartsWith source (bits MsbFirst bytes ++ pending) → ⊥
     other_byte byte pending within byte_is other begins =
         let front = bits MsbFirst (take i bytes) in
         let here = code_bits 8 byte in
@@ -112,8 +112,8 @@ module _ (bytes : List ℕ) (i : ℕ) (source ahead : List Bool) (so_far : sourc
         (begins.0, begins.1 ∙ ap (λ b. b ++ begins.0) all) in
         other (after ++ pending ++ more.0, more.1 ∙ append_assoc here (after ++ pending) more.0)
 
-    pub last_bits : (pending : List Bool) (result : Bool) → i ≡ length bytes → IsTrue result ↔ BeginsWith ahead pending
-        → IsTrue result ↔ BeginsWith source (bits MsbFirst bytes ++ pending)
+    pub last_bits : (pending : List Bool) (result : Bool) → i ≡ length bytes → IsTrue result ↔ StartsWith ahead pending
+        → IsTrue result ↔ StartsWith source (bits MsbFirst bytes ++ pending)
     last_bits pending result all here =
         let is : source ≡ bits MsbFirst bytes ++ ahead =
         so_far ∙ ap (λ n. bits MsbFirst (take n bytes) ++ ahead) all

@@ -15,7 +15,7 @@ use Rattle.std.proofs.lemmas.Nat.{leading_length, mod-pow-add, mod_below, or_shi
 use Rattle.std.proofs.lemmas.Nat.{shl-shr}
 use Rattle.std.proofs.lemmas.Nat.{shl_whole, shr_below, shr_split}
 use Rattle.fax_bits.specs.Bits.{code_bits, bits_number}
-use Rattle.fax_bits.specs.views.Source.{HasZerosAhead}
+use Rattle.fax_bits.specs.views.Source.{HasLeadingZeros}
 use Rattle.fax_bits.specs.code.Window.{first_bits}
 use Rattle.fax_bits.proofs.NumberLemmas.{number-code_bits}
 
@@ -36,38 +36,41 @@ moved : (number j k m : ℕ) → j + k ≡ m → number * 2 ^ j * 2 ^ k ≡ numb
 moved number j k m places = grind (arith, pow-add)
 
 -- a word that is shifted by n of its bits
-module _ (count word n left : ℕ) (few : count ≤ 64) (zeros : word % 2 ^ (64 - count) ≡ 0) (parts : left + n ≡ count)
+module _ (count word n remaining : ℕ) (few : count ≤ 64) (zeros : word % 2 ^ (64 - count) ≡ 0) (parts : remaining + n
+    ≡ count)
   where
-    pub shifted_is : word * 2 ^ n % 2 ^ 64 ≡ word / 2 ^ (64 - count) % 2 ^ left * 2 ^ (64 - left)
+    pub shifted_is : word * 2 ^ n % 2 ^ 64 ≡ word / 2 ^ (64 - count) % 2 ^ remaining * 2 ^ (64 - remaining)
     shifted_is =
         let number = word / 2 ^ (64 - count) in
-        let places : 64 - count + n ≡ 64 - left = omega arith in
-        let all : left + (64 - left) ≡ 64 = omega arith in
-        let up : word * 2 ^ n ≡ number * 2 ^ (64 - left) =
-        ap (λ w. w * 2 ^ n) (word_is count word zeros) ∙ moved number (64 - count) n (64 - left) places in
-        ap (λ w. w % 2 ^ 64) up ∙ ap (λ k. number * 2 ^ (64 - left) % 2 ^ k) (sym all)
-        ∙ mod-pow-add (number * 2 ^ (64 - left)) left (64 - left)
-        ∙ ap (λ low. number * 2 ^ (64 - left) / 2 ^ (64 - left) % 2 ^ left * 2 ^ (64 - left) + low)
-        (mul-mod_left number (2 ^ (64 - left)))
-        ∙ add-zero (number * 2 ^ (64 - left) / 2 ^ (64 - left) % 2 ^ left * 2 ^ (64 - left))
-        ∙ ap (λ k. k % 2 ^ left * 2 ^ (64 - left)) (shl-shr number (64 - left))
+        let places : 64 - count + n ≡ 64 - remaining = omega arith in
+        let all : remaining + (64 - remaining) ≡ 64 = omega arith in
+        let up : word * 2 ^ n ≡ number * 2 ^ (64 - remaining) =
+        ap (λ w. w * 2 ^ n) (word_is count word zeros) ∙ moved number (64 - count) n (64 - remaining) places in
+        ap (λ w. w % 2 ^ 64) up ∙ ap (λ k. number * 2 ^ (64 - remaining) % 2 ^ k) (sym all)
+        ∙ mod-pow-add (number * 2 ^ (64 - remaining)) remaining (64 - remaining)
+        ∙ ap (λ low. number * 2 ^ (64 - remaining) / 2 ^ (64 - remaining) % 2 ^ remaining * 2 ^ (64 - remaining) + low)
+        (mul-mod_left number (2 ^ (64 - remaining)))
+        ∙ add-zero (number * 2 ^ (64 - remaining) / 2 ^ (64 - remaining) % 2 ^ remaining * 2 ^ (64 - remaining))
+        ∙ ap (λ k. k % 2 ^ remaining * 2 ^ (64 - remaining)) (shl-shr number (64 - remaining))
 
-    pub shifted_bits : first_bits left (word * 2 ^ n % 2 ^ 64) ≡ drop n (first_bits count word)
+    pub shifted_bits : first_bits remaining (word * 2 ^ n % 2 ^ 64) ≡ drop n (first_bits count word)
     shifted_bits =
         let number = word / 2 ^ (64 - count) in
-        let all : n + left ≡ count = omega arith in
-        let low = mod_below number (2 ^ left) (pow_pos left) in
-        let split : code_bits count number ≡ code_bits n (number / 2 ^ left) ++ code_bits left (number % 2 ^ left) =
-        sym (ap (λ k. code_bits k number) all) ∙ ap (code_bits (n + left)) (sym (shr_split number left))
-        ∙ code_bits-add n left (number / 2 ^ left) (number % 2 ^ left) low in
-        first_bits-of left (number % 2 ^ left) (word * 2 ^ n % 2 ^ 64) shifted_is
-        ∙ sym (drop-append_seam (code_bits n (number / 2 ^ left)) (code_bits left (number % 2 ^ left)))
-        ∙ ap (λ k. drop k (code_bits n (number / 2 ^ left) ++ code_bits left (number % 2 ^ left)))
-        (length-code_bits n (number / 2 ^ left))
+        let all : n + remaining ≡ count = omega arith in
+        let low = mod_below number (2 ^ remaining) (pow_pos remaining) in
+        let split : code_bits count number ≡ code_bits n (number / 2 ^ remaining)
+        ++ code_bits remaining (number % 2 ^ remaining) =
+        sym (ap (λ k. code_bits k number) all) ∙ ap (code_bits (n + remaining)) (sym (shr_split number remaining))
+        ∙ code_bits-add n remaining (number / 2 ^ remaining) (number % 2 ^ remaining) low in
+        first_bits-of remaining (number % 2 ^ remaining) (word * 2 ^ n % 2 ^ 64) shifted_is
+        ∙ sym (drop-append_seam (code_bits n (number / 2 ^ remaining)) (code_bits remaining (number % 2 ^ remaining)))
+        ∙ ap (λ k. drop k (code_bits n (number / 2 ^ remaining) ++ code_bits remaining (number % 2 ^ remaining)))
+        (length-code_bits n (number / 2 ^ remaining))
         ∙ ap (drop n) (sym split)
 
-    pub shifted_zeros : word * 2 ^ n % 2 ^ 64 % 2 ^ (64 - left) ≡ 0
-    shifted_zeros = zeros_after-of left (word / 2 ^ (64 - count) % 2 ^ left) (word * 2 ^ n % 2 ^ 64) shifted_is
+    pub shifted_zeros : word * 2 ^ n % 2 ^ 64 % 2 ^ (64 - remaining) ≡ 0
+    shifted_zeros = zeros_after-of remaining (word / 2 ^ (64 - count) % 2 ^ remaining) (word * 2 ^ n % 2 ^ 64)
+        shifted_is
 
 -- a word to which k bits are added
 module _ (k count word more : ℕ) (room : count + k ≤ 64) (zeros : word % 2 ^ (64 - count) ≡ 0) (fits : more < 2 ^ k)
@@ -144,7 +147,7 @@ leading_one word n zero parts within below most = absurd (omega arith)
 leading_one word n (suc m) parts within below most = top_bit word n m parts below most
 
 pub zeros_before : (count word n : ℕ) (more : List Bool) → count ≤ 64 → word < 2 ^ 64
-    → n ≡ count_leading_zeros 64 word → n < count → HasZerosAhead (first_bits count word ++ more) n
+    → n ≡ count_leading_zeros 64 word → n < count → HasLeadingZeros (first_bits count word ++ more) n
 zeros_before count word n more few fits is within = (
   drop (suc n) ahead,
   sym (take-append-drop (suc n) ahead) ∙ ap (λ b. b ++ drop (suc n) ahead) front

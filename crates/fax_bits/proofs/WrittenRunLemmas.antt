@@ -9,7 +9,7 @@ use Rattle.fax_bits.specs.declared.codes.CodeEntry.{CodeEntry}
 use Rattle.fax_bits.specs.declared.Colour.{Colour}
 use Rattle.fax_bits.specs.declared.run_codes.RunCode.{RunCode}
 use Rattle.fax_bits.specs.declared.run_codes.RunCode.TheVariants.{Terminating, MakeUp}
-use Rattle.fax_bits.specs.Codes.{bits_of, Takes}
+use Rattle.fax_bits.specs.Codes.{bits_of, Decodes}
 use Rattle.fax_bits.specs.code.Codes.{run_meaning}
 use Rattle.fax_bits.specs.code.TableLaws.{length-run_table}
 use Rattle.fax_bits.specs.Written.{run_code_bits, run_codes, run_bits}
@@ -26,7 +26,7 @@ record IsCodeAt (colour : Colour) (b : List Bool) (code : RunCode) (rest : List 
   bits : b ≡ run_code_bits colour code ++ rest
 
 entry_at : (colour : Colour) (b : List Bool) (code : RunCode) (rest : List Bool)
-    (takes : Takes (run_table colour) b code rest) (place : ℕ)
+    (takes : Decodes (run_table colour) b code rest) (place : ℕ)
     (entry : CodeEntry RunCode)
     → place < 105 → slice_get (run_table colour) place ≡ Some takes.entry
     → slice_get (run_table colour) place ≡ Some entry
@@ -41,7 +41,7 @@ entry_at colour b code rest takes place entry within at found meaning =
     record { place = place; within = within; means = means; bits = takes.spelled ∙ ap (λ c. c ++ rest) bits }
 
 code_taken : (colour : Colour) (b : List Bool) (code : RunCode) (rest : List Bool)
-    → Takes (run_table colour) b code rest
+    → Decodes (run_table colour) b code rest
     → IsCodeAt colour b code rest
 code_taken colour b code rest takes =
     let table = run_table colour in
@@ -65,19 +65,19 @@ make_up_means place m within means = grind (arith, common_steps)
 
 -- a code means so many pels at most
 pub terminating_few : (colour : Colour) (b : List Bool) (n : ℕ) (rest : List Bool)
-    → Takes (run_table colour) b (Terminating n) rest → n < 64
+    → Decodes (run_table colour) b (Terminating n) rest → n < 64
 terminating_few colour b n rest takes =
     let code = code_taken colour b (Terminating n) rest takes in short_means code.place n code.within code.means
 
 pub make_up_few : (colour : Colour) (b : List Bool) (m : ℕ) (rest : List Bool)
-    → Takes (run_table colour) b (MakeUp m) rest → m ≤ 2560
+    → Decodes (run_table colour) b (MakeUp m) rest → m ≤ 2560
 make_up_few colour b m rest takes =
     let code = code_taken colour b (MakeUp m) rest takes in
     let steps = make_up_means code.place m code.within code.means in
     omega (arith, steps.are, steps.few)
 
 pub short_written : (colour : Colour) (b : List Bool) (n : ℕ) (rest : List Bool)
-    → Takes (run_table colour) b (Terminating n) rest
+    → Decodes (run_table colour) b (Terminating n) rest
     → b ≡ run_bits colour n ++ rest
 short_written colour b n rest takes =
     let code = code_taken colour b (Terminating n) rest takes in
@@ -89,8 +89,8 @@ long_codes : (steps n : ℕ) → 0 < steps → steps ≤ 40 → n < 64
 long_codes steps n some few short = grind (arith, common_steps)
 
 pub long_written : (colour : Colour) (b : List Bool) (m n : ℕ) (middle rest : List Bool)
-    → Takes (run_table colour) b (MakeUp m) middle
-    → Takes (run_table colour) middle (Terminating n) rest → b ≡ run_bits colour (m + n) ++ rest
+    → Decodes (run_table colour) b (MakeUp m) middle
+    → Decodes (run_table colour) middle (Terminating n) rest → b ≡ run_bits colour (m + n) ++ rest
 unfolding run_bits
 long_written colour b m n middle rest first last =
     let up = code_taken colour b (MakeUp m) middle first in
@@ -105,7 +105,7 @@ long_written colour b m n middle rest first last =
 
 -- a make-up code of 2560 pels stands before the codes of what is left
 pub most_written : (colour : Colour) (b : List Bool) (n : ℕ) (middle rest : List Bool)
-    → Takes (run_table colour) b (MakeUp 2560) middle
+    → Decodes (run_table colour) b (MakeUp 2560) middle
     → middle ≡ run_bits colour n ++ rest → b ≡ run_bits colour (2560 + n) ++ rest
 unfolding run_bits
 most_written colour b n middle rest first written =

@@ -1,13 +1,14 @@
 -- Zeros that bits begin with.
 use Rattle.std.proofs.Common.{◌≡◌, ℕ, zero, suc, ◌<◌, List, [], ◌∷◌, length, get_or, Bool, true, false, refl, ap, arith}
 use Rattle.fax_bits.specs.Bits.{IsAllZeros}
-use Rattle.fax_bits.specs.views.Source.{HasZerosAhead}
+use Rattle.fax_bits.specs.views.Source.{HasLeadingZeros}
 
 -- the first n bits are 0
 abbrev pub IsZeroBelow : List Bool → ℕ → Type 0
 IsZeroBelow b n = (k : ℕ) → k < n → get_or b k false ≡ false
 
-pub zeros_ahead : (b : List Bool) (n : ℕ) → n < length b → IsZeroBelow b n → get_or b n false ≡ true → HasZerosAhead b n
+pub zeros_ahead : (b : List Bool) (n : ℕ) → n < length b → IsZeroBelow b n → get_or b n false ≡ true
+    → HasLeadingZeros b n
 zeros_ahead [] n within below one = absurd (omega arith)
 zeros_ahead (x ∷ b) zero within below one = (b, ap (λ y. y ∷ b) one)
 zeros_ahead (x ∷ b) (suc n) within below one =

@@ -37,8 +37,8 @@ unfoldable pub packed : FillOrder → List Bool → List ℕ
 packed order b = map (byte_of order) (first_chunks 8 ((length b + 7) / 8) (b ++ replicate 7 false))
 
 -- the list begins with this front
-abbrev pub BeginsWith : {A : Type 0} → List A → List A → Type 0
-BeginsWith {A} list front = (rest : List A) × (list ≡ front ++ rest)
+abbrev pub StartsWith : {A : Type 0} → List A → List A → Type 0
+StartsWith {A} list front = (rest : List A) × (list ≡ front ++ rest)
 
 -- no 1 is among the bits (T.4, section 4.1.3)
 abbrev pub IsAllZeros : List Bool → Type 0

@@ -3,7 +3,7 @@ use Rattle.std.specs.Prelude.{◌≡◌, ℕ, ◌+◌, Bool, true, false, List, 
 use Rattle.std.specs.Prelude.{Contains}
 use Rattle.std.specs.Prelude.{Option, Some, None, if◌then◌else◌}
 use Rattle.std.specs.List.{list_any}
-use Rattle.fax_bits.specs.Bits.{Colour, BeginsWith, code_bits}
+use Rattle.fax_bits.specs.Bits.{Colour, StartsWith, code_bits}
 use Rattle.fax_bits.specs.Reading.{Read, read, failed}
 use Rattle.fax_bits.specs.Tables.{CodeEntry, run_table}
 use Rattle.fax_bits.specs.declared.codes.CodeFault.{CodeFault}
@@ -53,7 +53,7 @@ abbrev pub read_code : {M : Type 0} → List (CodeEntry M) → List Bool → Rea
 read_code table b = read_or (code_fault table b) (first_code table b)
 
 -- the bits begin with the code of some entry that has this meaning, and the rest follows it
-pub record Takes {M : Type 0} (table : List (CodeEntry M)) (b : List Bool) (meaning : M)
+pub record Decodes {M : Type 0} (table : List (CodeEntry M)) (b : List Bool) (meaning : M)
     (rest : List Bool) : Type 0 where
   pub entry : CodeEntry M
   pub listed : Contains table entry
@@ -63,18 +63,18 @@ pub record Takes {M : Type 0} (table : List (CodeEntry M)) (b : List Bool) (mean
 -- no code of the table begins the bits
 abbrev pub HasNoCode : {M : Type 0} → List (CodeEntry M) → List Bool → Type 0
 HasNoCode {M} table b =
-    (entry : CodeEntry M) → Contains table entry → BeginsWith b (bits_of entry) → ⊥
+    (entry : CodeEntry M) → Contains table entry → StartsWith b (bits_of entry) → ⊥
 
 -- the bits are the codes of these meanings, one after another, and the rest follows them
-abbrev pub Spells : {M : Type 0} → List (CodeEntry M) → List Bool → List M → List Bool → Type 0
-Spells table b [] rest = b ≡ rest
-Spells table b (meaning ∷ meanings) rest =
-    (middle : List Bool) × Takes table b meaning middle × Spells table middle meanings rest
+abbrev pub DecodesAll : {M : Type 0} → List (CodeEntry M) → List Bool → List M → List Bool → Type 0
+DecodesAll table b [] rest = b ≡ rest
+DecodesAll table b (meaning ∷ meanings) rest =
+    (middle : List Bool) × Decodes table b meaning middle × DecodesAll table middle meanings rest
 
 -- the bits begin with a run of n pels: make-up codes and then one terminating code (that there may
 -- be any number of make-up codes, in any order, is this project's profile)
 pub record IsRun (colour : Colour) (b : List Bool) (n : ℕ) (rest : List Bool) : Type 0 where
   pub make_up : List ℕ
   pub last : ℕ
-  pub spelled : Spells (run_table colour) b (map MakeUp make_up ++ Terminating last ∷ []) rest
+  pub spelled : DecodesAll (run_table colour) b (map MakeUp make_up ++ Terminating last ∷ []) rest
   pub length : n ≡ sum make_up + last

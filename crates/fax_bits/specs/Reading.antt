@@ -12,7 +12,7 @@ abbrev pub answered : {A B F : Type 0} → (A → B) → Result A F → List Boo
 answered view (Ok x) rest = read (view x) rest
 answered view (Err fault) rest = failed fault
 
--- go on with what is read, or end with its fault
+-- continue with what is read, or end with its fault
 infixl 10 ◌>>=◌
 abbrev pub ◌>>=◌ : {A B F : Type 0} → Read A F → (A → List Bool → Read B F) → Read B F
 (read x rest) >>= next = next x rest
@@ -23,7 +23,7 @@ abbrev pub map_fault : {A F G : Type 0} → (F → G) → Read A F → Read A G
 map_fault name (read x rest) = read x rest
 map_fault name (failed fault) = failed (name fault)
 
--- a step of what is read step by step: it goes on from a state, or is the last one, or a fault is
+-- a step of what is read step by step: it continues from a state, or is the last one, or a fault is
 -- in its way
 pub data Step (S A F : Type 0) : Type 0 where
   onward : S → List Bool → Step S A F
@@ -48,7 +48,7 @@ steps_within fault step zero at b = failed fault
 steps_within fault step (suc limit) at b =
     and_more (λ next rest. steps_within fault step limit next rest) (step at b)
 
--- what is read step by step from a state on, where a step that goes on takes one bit at least
+-- what is read step by step from a state on, where a step that continues takes one bit at least
 unfoldable pub steps : {S A F : Type 0} → F → (S → List Bool → Step S A F) → S → List Bool
     → Read A F
 steps fault step at b = steps_within fault step (suc (length b)) at b

@@ -7,8 +7,8 @@ use crate::codes::CodeTable;
 
 /// Bytes have eight bits each, and each bit stands in its byte, at a place that the fill order says
 /// (TIFF 6.0, FillOrder).
-pub fn bits_stand_by_place()
-    ensures { Law.AreBitsByPlace }
+pub fn bits_stand_by_index()
+    ensures { Law.AreBitsByIndex }
 {}
 
 /// Eight bits are those of one byte, and a byte is the number that its bits spell, the highest

@@ -5,7 +5,7 @@ ghost use Rattle.fax_bits.specs.views.Codes.{HasCodeAhead};
 ghost use Rattle.fax_bits.specs.Tables.{modes};
 
 use crate::codes::{CodeEntry, CodeTable, LONGEST_CODE, within};
-use crate::indexes::{MODE_PLACES, VERTICAL_MODES};
+use crate::indexes::{MODE_INDEXES, VERTICAL_MODES};
 
 /// What a code of the mode table means (T.4, section 4.2.1.3.2).
 #[derive(Clone, Copy, Debug, PartialEq, Eq)]
@@ -72,7 +72,7 @@ impl CodeTable for Modes {
 
     fn find(window: u32, n: u32) -> Option<(u32, ModeCode)> {
         let bits = window << (LONGEST_CODE - n);
-        let place = usize::from(MODE_PLACES[(bits >> 6) as usize]);
+        let place = usize::from(MODE_INDEXES[(bits >> 6) as usize]);
         if place < MODE_ENTRIES {
             within(Self::entry(place), n)
         } else {

@@ -13,7 +13,7 @@ pub const SHORT_RUN: u32 = 16;
 
 /// A white run and the black one after it, by the pels that they have.
 #[derive(Clone, Copy, Debug, PartialEq, Eq)]
-pub struct Pair {
+pub struct RunPair {
     pub white: u32,
     pub black: u32,
 }
@@ -21,7 +21,7 @@ pub struct Pair {
 /// The pair whose terminating codes begin thirteen bits, of which they take twelve at most, and how
 /// many they take. Each of its runs has pels. `None` where no such pair does.
 #[inline(always)]
-pub(crate) fn find_pair(bits: u32) -> Option<(u32, Pair)>
+pub(crate) fn find_pair(bits: u32) -> Option<(u32, RunPair)>
     requires { bits < 2 ^ LONGEST_CODE }
     ensures { IfSome result
         (λ found. IsPairAhead (code_bits LONGEST_CODE bits) found.0 found.1) }
@@ -33,7 +33,7 @@ pub(crate) fn find_pair(bits: u32) -> Option<(u32, Pair)>
     if len == 0 {
         return None;
     }
-    let pair = Pair {
+    let pair = RunPair {
         white: u32::from(PAIRS.whites[at]),
         black: u32::from(PAIRS.blacks[at]),
     };

@@ -137,7 +137,7 @@ impl PendingBits {
     pub fn put_run(self, sink: &mut BitSink, colour: Colour, n: u32) -> Result<Self, Memory>
         requires { n < 2 ^ 16 }
         ensures ok { IfOk result
-            (λ left. AppendsAllBut sink.old (self ++ run_bits colour n) left sink.new) }
+            (λ remaining. AppendsAllBut sink.old (self ++ run_bits colour n) remaining sink.new) }
         ensures err { OnErr result (AppendsPrefix sink.old (self ++ run_bits colour n) sink.new) }
     {
         if n < 2560 {
@@ -176,8 +176,8 @@ impl PendingBits {
         requires first { first < SHORT_RUN }
         requires second { second < SHORT_RUN }
         ensures ok { IfOk result
-            (λ left. AppendsAllBut sink.old (self ++ pair_bits colour first second)
-            left sink.new) }
+            (λ remaining. AppendsAllBut sink.old (self ++ pair_bits colour first second)
+            remaining sink.new) }
         ensures err { OnErr result (sink.new ≡ sink.old) }
     {
         // Nearly all pairs of a dithered page are so short. Longer runs are put one by one.
@@ -194,7 +194,7 @@ impl PendingBits {
     pub fn put_mode(self, sink: &mut BitSink, mode: ModeCode) -> Result<Self, Memory>
         requires { IsWritten mode }
         ensures ok { IfOk result
-            (λ left. AppendsAllBut sink.old (self ++ mode_bits mode) left sink.new) }
+            (λ remaining. AppendsAllBut sink.old (self ++ mode_bits mode) remaining sink.new) }
         ensures err { OnErr result (sink.new ≡ sink.old) }
     {
         self.put(sink, mode_code(mode))
@@ -202,14 +202,14 @@ impl PendingBits {
 }
 
 impl BitSource<'_> {
-    /// Goes past the codes of a run of `n` pels, fewer than 2560, as they are written, where they
-    /// stand next, and answers whether they do (T.4, section 4.1.1). Else it stays.
+    /// Skips the codes of a run of `n` pels, fewer than 2560, as they are written, where they stand
+    /// next, and returns whether they do (T.4, section 4.1.1). Else it stays.
     #[inline(always)]
-    pub fn take_run(&mut self, colour: Colour, n: u32) -> bool
+    pub fn skip_run_if_next(&mut self, colour: Colour, n: u32) -> bool
         requires { n < 2560 }
-        ensures taken { IsTaken (run_bits colour n) self.old.left result self.new.left }
+        ensures taken { IsTaken (run_bits colour n) self.old.remaining result self.new.remaining }
 
-        // The source goes on in the same bits.
+        // The source continues in the same bits.
         ensures same_end { KeepsEnd self.old self.new }
     {
         codes_of_run(colour, n).take(self)

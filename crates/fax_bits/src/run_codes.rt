@@ -16,7 +16,7 @@ use crate::indexes::{BLACK_LONG, BLACK_SHORT, WHITE_LONG, WHITE_SHORT};
 pub enum RunCode {
     /// Ends a run: this many pels, 0 to 63.
     Terminating(u16),
-    /// Goes on with a run: this many pels, 64 to 2560.
+    /// Continues with a run: this many pels, 64 to 2560.
     MakeUp(u16),
     /// The prefix of codes that T.4 leaves to extensions.
     Extension,
@@ -168,7 +168,7 @@ fn find_run(colour: Colour, window: u32, n: u32) -> Option<(u32, RunCode)>
     ensures { MatchOption result (HasNoCode (run_table colour) (code_bits n window))
         (λ found. HasCodeAhead (run_table colour) (code_bits n window) found.0 found.1) }
 {
-    let place = run_place(colour, window << (LONGEST_CODE - n));
+    let place = run_index(colour, window << (LONGEST_CODE - n));
     if place < RUN_ENTRIES {
         within(run_entry(colour, place), n)
     } else {
@@ -179,7 +179,7 @@ fn find_run(colour: Colour, window: u32, n: u32) -> Option<(u32, RunCode)>
 /// The place of the code that begins thirteen bits in the run table of a colour, or the number of
 /// codes where none does.
 #[inline(always)]
-fn run_place(colour: Colour, bits: u32) -> usize
+fn run_index(colour: Colour, bits: u32) -> usize
     requires { bits < 2 ^ LONGEST_CODE }
     ensures { result ≡ place_of (run_table colour) LONGEST_CODE bits }
 {
@@ -210,7 +210,7 @@ pub(crate) fn find_run_code(colour: Colour, bits: u32) -> Option<(u32, RunCode)>
     };
     let mut place = usize::from(short);
     if place >= EXTENSION {
-        place = run_place(colour, bits);
+        place = run_index(colour, bits);
         if place >= EXTENSION {
             return None;
         }

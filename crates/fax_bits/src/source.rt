@@ -2,8 +2,8 @@
 ghost use Rattle.std.specs.Prelude.{◌≡◌, ◌+◌, ◌≤◌, ◌<◌, ◌++◌, length, take, drop, replicate};
 ghost use Rattle.std.specs.Prelude.{slice_index_or, false, MatchOption, IsTrue, ◌↔◌};
 ghost use Rattle.std.specs.Prelude.{◌^◌, ◌-◌};
-ghost use Rattle.fax_bits.specs.Bits.{bits, IsAllZeros, code_bits, BeginsWith};
-ghost use Rattle.fax_bits.specs.views.Source.{HasZerosAhead, IsTaken, KeepsEnd};
+ghost use Rattle.fax_bits.specs.Bits.{bits, IsAllZeros, code_bits, StartsWith};
+ghost use Rattle.fax_bits.specs.views.Source.{HasLeadingZeros, IsTaken, KeepsEnd};
 ghost use Rattle.fax_bits.specs.Bits.{bits_number};
 ghost use Rattle.fax_bits.specs.laws.Codes.{bit_in_byte};
 ghost use Rattle.fax_bits.specs.code.Source.{IsZeroByteAt};
@@ -24,11 +24,11 @@ pub struct BitSource<'a> {
 
 impl<'a> Model for BitSource<'a> {
     ghost use Rattle.fax_bits.specs.views.Source.{Source, source_of};
-    ghost use Rattle.fax_bits.specs.code.BitsAhead.{IsAhead, place_before};
+    ghost use Rattle.fax_bits.specs.code.BitsAhead.{IsAhead, bit_offset};
 
     ghost Value = { Source };
 
-    ghost view = { λ s. source_of s.order s.bytes.now (place_before s.window) };
+    ghost view = { λ s. source_of s.order s.bytes.now (bit_offset s.window) };
 
     ghost invariant = { λ s. IsAhead s.order s.bytes.now s.window };
 }
@@ -59,15 +59,15 @@ impl<'a> BitSource<'a> {
 
     /// How many bits are left.
     pub fn remaining(&self) -> u64
-        ensures { result ≡ length self.now.left }
+        ensures { result ≡ length self.now.remaining }
     {
         (self.bytes.len() - self.window.at) as u64 * 8 + u64::from(self.window.count)
     }
 
     /// The bit that is `i` bits ahead.
     pub(crate) fn bit(&self, i: u64) -> bool
-        requires { i < length self.now.left }
-        ensures { result ≡ slice_index_or self.now.left i false }
+        requires { i < length self.now.remaining }
+        ensures { result ≡ slice_index_or self.now.remaining i false }
     {
         let at = self.window.place() + i;
         let byte = self.bytes[(at / 8) as usize];
@@ -78,7 +78,7 @@ impl<'a> BitSource<'a> {
     /// the bytes it sees zeros, which are no bits: `remaining` says how many bits there are.
     pub fn peek(&self, n: u32) -> u32
         requires { n ≤ 32 }
-        ensures { result ≡ bits_number (take n (self.now.left ++ replicate n false)) }
+        ensures { result ≡ bits_number (take n (self.now.remaining ++ replicate n false)) }
     {
         if n == 0 {
             return 0;
@@ -92,8 +92,8 @@ impl<'a> BitSource<'a> {
     /// The byte that begins `i` bits ahead is whole and all zeros. `false` where no byte begins
     /// there.
     fn is_zero_byte(&self, i: u64) -> bool
-        requires { i < length self.now.left }
-        ensures { IsTrue result → IsZeroByteAt self.now.left i }
+        requires { i < length self.now.remaining }
+        ensures { IsTrue result → IsZeroByteAt self.now.remaining i }
     {
         let at = self.window.place() + i;
         at % 8 == 0 && self.bytes[(at / 8) as usize] == 0
@@ -101,36 +101,36 @@ impl<'a> BitSource<'a> {
 
     /// How many zeros stand before the next 1, or `None` where no 1 is left.
     pub fn zeros(&self) -> Option<u64>
-        ensures { MatchOption result (IsAllZeros self.now.left) (HasZerosAhead self.now.left) }
+        ensures { MatchOption result (IsAllZeros self.now.remaining) (HasLeadingZeros self.now.remaining) }
     {
         let zeros = self.window.zeros();
         if zeros < self.window.count {
             return Some(u64::from(zeros));
         }
-        self.zeros_filled()
+        self.zeros_slow()
     }
 
     /// What `zeros` says where no 1 is loaded.
     #[inline(never)]
-    fn zeros_filled(&self) -> Option<u64>
-        ensures { MatchOption result (IsAllZeros self.now.left) (HasZerosAhead self.now.left) }
+    fn zeros_slow(&self) -> Option<u64>
+        ensures { MatchOption result (IsAllZeros self.now.remaining) (HasLeadingZeros self.now.remaining) }
     {
         let ahead = self.window.filled(self.bytes, self.order);
         let zeros = ahead.zeros();
         if zeros < ahead.count {
             return Some(u64::from(zeros));
         }
-        self.zeros_by_bytes()
+        self.zeros_bytewise()
     }
 
     /// What `zeros` says, by bytes and bits: in fill, and near the end of the bytes.
     #[inline(never)]
-    fn zeros_by_bytes(&self) -> Option<u64>
-        ensures { MatchOption result (IsAllZeros self.now.left) (HasZerosAhead self.now.left) }
+    fn zeros_bytewise(&self) -> Option<u64>
+        ensures { MatchOption result (IsAllZeros self.now.remaining) (HasLeadingZeros self.now.remaining) }
     {
-        let left = self.remaining();
+        let remaining = self.remaining();
         let mut zeros = 0;
-        while zeros < left {
+        while zeros < remaining {
             if self.is_zero_byte(zeros) {
                 zeros += 8;
             } else if self.bit(zeros) {
@@ -144,7 +144,7 @@ impl<'a> BitSource<'a> {
 
     /// The same place once more.
     #[inline(always)]
-    pub fn again(&self) -> Self
+    pub fn fork(&self) -> Self
         ensures { result ≡ self.now }
     {
         // A reader of rows works on a copy, which the compiler keeps in registers, and goes to
@@ -152,30 +152,30 @@ impl<'a> BitSource<'a> {
         // By its fields, so that a copy in registers has no gaps that are copied too.
         BitSource {
             bytes: self.bytes,
-            window: self.window.again(),
+            window: self.window.fork(),
             order: self.order,
         }
     }
 
     /// Goes to the place of another source.
     #[inline(always)]
-    pub fn go_to(&mut self, other: &BitSource<'a>)
+    pub fn advance_to(&mut self, other: &BitSource<'a>)
         ensures { self.new ≡ other.now }
     {
         // By its fields, so that a copy in registers has no gaps that are copied too.
         self.bytes = other.bytes;
-        self.window = other.window.again();
+        self.window = other.window.fork();
         self.order = other.order;
     }
 
-    /// Goes past the lowest `len` bits of `bits`, 0 to 32 of them, the highest first, where they
-    /// stand next, and answers whether they do. Else it stays.
+    /// Skips the lowest `len` bits of `bits`, 0 to 32 of them, the highest first, where they stand
+    /// next, and returns whether they do. Else it stays.
     pub fn take(&mut self, bits: u32, len: u32) -> bool
         requires short { len ≤ 32 }
         requires fits { bits < 2 ^ len }
-        ensures taken { IsTaken (code_bits len bits) self.old.left result self.new.left }
+        ensures taken { IsTaken (code_bits len bits) self.old.remaining result self.new.remaining }
 
-        // The source goes on in the same bits.
+        // The source continues in the same bits.
         ensures same_end { KeepsEnd self.old self.new }
     {
         if len == 0 {
@@ -190,50 +190,50 @@ impl<'a> BitSource<'a> {
     }
 
     /// Whether the lowest `len` bits of `bits`, 0 to 48 of them, the highest first, stand next.
-    pub(crate) fn begins(&self, bits: u64, len: u32) -> bool
+    pub(crate) fn starts_with(&self, bits: u64, len: u32) -> bool
         requires short { len ≤ 48 }
         requires fits { bits < 2 ^ len }
-        ensures { IsTrue result ↔ BeginsWith self.now.left (code_bits len bits) }
+        ensures { IsTrue result ↔ StartsWith self.now.remaining (code_bits len bits) }
     {
         let low = len / 2;
-        let mut ahead = self.again();
+        let mut ahead = self.fork();
         if !ahead.take((bits >> low) as u32, len - low) {
             return false;
         }
         ahead.take((bits & ((1 << low) - 1)) as u32, low)
     }
 
-    /// Goes on by `n` bits.
+    /// Advances by `n` bits.
     #[inline(always)]
     pub fn skip(&mut self, n: u64)
-        requires { n ≤ length self.old.left }
-        ensures { self.new ≡ record { left = drop n self.old.left; place = self.old.place + n } }
+        requires { n ≤ length self.old.remaining }
+        ensures { self.new ≡ record { remaining = drop n self.old.remaining; place = self.old.place + n } }
     {
         if n <= u64::from(self.window.count) && n < 64 {
             self.window = self.window.after(n as u32);
         } else {
-            self.skip_further(n);
+            self.skip_slow(n);
         }
     }
 
-    /// Goes on to a place.
+    /// Advances to a place.
     #[inline(always)]
     pub fn skip_to(&mut self, place: u64)
         requires ahead { self.old.place ≤ place }
-        requires within { place ≤ self.old.place + length self.old.left }
+        requires within { place ≤ self.old.place + length self.old.remaining }
         ensures { self.new
-            ≡ record { left = drop (place - self.old.place) self.old.left; place = place } }
+            ≡ record { remaining = drop (place - self.old.place) self.old.remaining; place = place } }
     {
         // By its fields, so that the window that is gone on with need not stand in memory.
-        let window = Window::from_place(self.bytes, self.order, place);
-        self.window = window.again();
+        let window = Window::at_bit_offset(self.bytes, self.order, place);
+        self.window = window.fork();
     }
 
     /// What `skip` does past bits that are not loaded.
     #[inline(never)]
-    fn skip_further(&mut self, n: u64)
-        requires { n ≤ length self.old.left }
-        ensures { self.new ≡ record { left = drop n self.old.left; place = self.old.place + n } }
+    fn skip_slow(&mut self, n: u64)
+        requires { n ≤ length self.old.remaining }
+        ensures { self.new ≡ record { remaining = drop n self.old.remaining; place = self.old.place + n } }
     {
         let place = self.window.place() + n;
         let ahead = self.window.filled(self.bytes, self.order);
@@ -241,7 +241,7 @@ impl<'a> BitSource<'a> {
             self.window = ahead.after(n as u32);
             return;
         }
-        self.window = Window::from_place(self.bytes, self.order, place);
+        self.window = Window::at_bit_offset(self.bytes, self.order, place);
     }
 }
 

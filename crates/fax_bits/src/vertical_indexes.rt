@@ -7,8 +7,8 @@ pub(crate) struct VerticalsAt {
     pub lens: [u8; 4096],
     /// How many they are, or 0.
     pub counts: [u8; 4096],
-    /// How many pels right of the pel three left of b1 a1 is in each, a byte each, the lowest first.
-    pub raises: [u32; 4096],
+    /// How many pels each a1 is right of the pel three left of b1, a byte each, lowest first.
+    pub biased_offsets: [u32; 4096],
 }
 
 pub(crate) static VERTICALS: VerticalsAt = VerticalsAt {
@@ -294,7 +294,7 @@ pub(crate) static VERTICALS: VerticalsAt = VerticalsAt {
         4, 4, 4, 4, 4, 4, 4, 4, 4, 4, 4, 4, 4, 4, 4, 4, 4, 4, 4, 4, 4, 4, 4, 4, 4, 4, 4, 4, 4, 4,
         4, 4, 4, 4, 4, 4, 4, 4, 4, 4, 4, 4, 4, 4, 4, 4,
     ],
-    raises: [
+    biased_offsets: [
         0, 0, 0, 0, 0, 0, 0, 0, 0, 0, 0, 0, 0, 0, 0, 0, 0, 0, 0, 0, 0, 0, 0, 0, 0, 0, 0, 0, 0, 0,
         0, 0, 0, 0, 0, 0, 0, 0, 0, 0, 0, 0, 0, 0, 0, 0, 0, 0, 0, 0, 0, 0, 0, 0, 0, 0, 0, 0, 0, 0,
         0, 0, 0, 0, 0, 0, 0, 0, 0, 0, 0, 0, 512, 512, 197120, 50528768, 1024, 1024, 197632,

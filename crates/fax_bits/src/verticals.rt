@@ -11,7 +11,7 @@ use crate::vertical_indexes::VERTICALS;
 pub struct Verticals {
     pub count: u32,
     /// How many pels right of the pel three left of b1 a1 is in each: 0 to 6.
-    pub raises: [u8; 4],
+    pub biased_offsets: [u8; 4],
 }
 
 /// The vertical modes whose codes begin thirteen bits, of which they take twelve at most, and how
@@ -24,7 +24,8 @@ pub(crate) fn find_verticals(bits: u32) -> Option<(u32, Verticals)>
 {
     // Two modes at least are looked for: half the time of reading was mispredicted branches, one or
     // two a mode. The four of an entry stand in one number, as lanes take them, since an array of
-    // arrays would have five thousand lines. `crates/fax_bits/make-indexes verticals` prints them;
+    // arrays would have five thousand lines. `crates/fax_bits/make-indexes try_read_verticals`
+    // prints them;
     // a computed proof goes through all 4,096 numbers.
     let at = (bits >> 1) as usize;
     let len = VERTICALS.lens[at];
@@ -33,7 +34,7 @@ pub(crate) fn find_verticals(bits: u32) -> Option<(u32, Verticals)>
     }
     let verticals = Verticals {
         count: u32::from(VERTICALS.counts[at]),
-        raises: VERTICALS.raises[at].to_le_bytes(),
+        biased_offsets: VERTICALS.biased_offsets[at].to_le_bytes(),
     };
     Some((u32::from(len), verticals))
 }

@@ -4,7 +4,7 @@ ghost use Rattle.std.specs.Prelude.{drop};
 ghost use Rattle.fax_bits.specs.code.Source.{IsPlaced};
 ghost use Rattle.std.specs.Prelude.{◌*◌, ◌⊎◌, replicate, true, false, IsTrue, IfSome};
 ghost use Rattle.fax_bits.specs.Bits.{bits, code_bits};
-ghost use Rattle.fax_bits.specs.views.Source.{HasZerosAhead};
+ghost use Rattle.fax_bits.specs.views.Source.{HasLeadingZeros};
 ghost use Rattle.fax_bits.specs.Bits.{bits_number};
 ghost use Rattle.fax_bits.specs.declared.FillOrder.{FillOrder};
 
@@ -24,7 +24,7 @@ pub(crate) struct Window {
 }
 
 impl Window {
-    ghost use Rattle.fax_bits.specs.code.BitsAhead.{bits_ahead, IsAhead, place_before};
+    ghost use Rattle.fax_bits.specs.code.BitsAhead.{bits_ahead, IsAhead, bit_offset};
 
     /// The bits from a byte on, of which none is loaded.
     #[inline(always)]
@@ -43,10 +43,10 @@ impl Window {
 
     /// The bits from a place on, of which no more than those of its byte are loaded.
     #[inline(never)]
-    pub fn from_place(bytes: &[u8], order: FillOrder, place: u64) -> Window
+    pub fn at_bit_offset(bytes: &[u8], order: FillOrder, place: u64) -> Window
         requires { IsPlaced bytes.now place }
         ensures ahead { IsAhead order bytes.now result }
-        ensures place { place_before result ≡ place }
+        ensures place { bit_offset result ≡ place }
     {
         let at = (place / 8) as usize;
         let bits = (place % 8) as u32;
@@ -58,7 +58,7 @@ impl Window {
 
     /// The same window, made of its fields.
     #[inline(always)]
-    pub fn again(self) -> Window
+    pub fn fork(self) -> Window
         ensures { result ≡ self }
     {
         Window {
@@ -73,7 +73,7 @@ impl Window {
     pub fn place(self) -> u64
         requires after { self.count ≤ 8 * self.at }
         requires within { self.at ≤ 4294967295 }
-        ensures { result ≡ place_before self }
+        ensures { result ≡ bit_offset self }
     {
         self.at as u64 * 8 - u64::from(self.count)
     }
@@ -99,7 +99,7 @@ impl Window {
     #[inline(always)]
     pub fn refilled(self, bytes: &[u8], order: FillOrder) -> Window
         requires room { self.count < 32 }
-        requires left { self.at + 4 ≤ length bytes.now }
+        requires remaining { self.at + 4 ≤ length bytes.now }
         ensures ahead { bits_ahead order bytes.now result ≡ bits_ahead order bytes.now self }
         ensures count { result.count ≡ self.count + 32 }
         ensures at { result.at ≡ self.at + 4 }
@@ -116,7 +116,7 @@ impl Window {
     #[inline(always)]
     pub fn with_byte(self, bytes: &[u8], order: FillOrder) -> Window
         requires room { self.count ≤ 56 }
-        requires left { self.at < length bytes.now }
+        requires remaining { self.at < length bytes.now }
         ensures ahead { bits_ahead order bytes.now result ≡ bits_ahead order bytes.now self }
         ensures count { result.count ≡ self.count + 8 }
         ensures at { result.at ≡ self.at + 1 }
@@ -203,7 +203,7 @@ impl Window {
     #[inline(always)]
     pub fn zeros(self) -> u32
         ensures ahead { (order : FillOrder) (bytes : List ℕ) → result < self.count
-            → HasZerosAhead (bits_ahead order bytes self) result }
+            → HasLeadingZeros (bits_ahead order bytes self) result }
     {
         self.bits.leading_zeros()
     }
@@ -212,7 +212,7 @@ impl Window {
     #[inline(always)]
     pub fn begins_with_one(self) -> bool
         ensures ahead { IsTrue result → (order : FillOrder) (bytes : List ℕ)
-            → HasZerosAhead (bits_ahead order bytes self) 0 }
+            → HasLeadingZeros (bits_ahead order bytes self) 0 }
         ensures loaded { IsTrue result → 0 < self.count }
     {
         self.bits >> 63 == 1

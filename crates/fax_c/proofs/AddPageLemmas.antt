@@ -101,9 +101,9 @@ pub page_len : (written : FaxWritten) (old : List ℕ) (form : PageForm) (strips
     ≡ length (with_page (file_so_far written old) written.total written.added form strips).bytes
 page_len written old form strips start writing start_is = grind (arith, so_far, len_with_page)
 
-abbrev told_of : FaxWritten → ℕ → ℕ → FaxWritten
-told_of old len link = record { len = len; link = link; total = old.total; added = old.added + 1 }
+abbrev final_end_of : FaxWritten → ℕ → ℕ → FaxWritten
+final_end_of old len link = record { len = len; link = link; total = old.total; added = old.added + 1 }
 
 pub told_is : (old : FaxWritten) (len last link next : ℕ) → len ≡ last → link ≡ next
-    → told_of old len link ≡ told_of old last next
+    → final_end_of old len link ≡ final_end_of old last next
 told_is old len last link next len_is link_is = rw (len_is, link_is) refl

@@ -16,16 +16,16 @@ pub has_few_changes : (row : List Colour) → length (changes_of row) ≤ length
 has_few_changes row = grind (arith, length-range_with_len, length-filter-le)
 
 -- the first of these runs are written at a place
-pub record AreRunsPut (all left : List ℕ) (at to : ℕ) (old now : List ℕ) : Type 0 where
+pub record AreRunsPut (all remaining : List ℕ) (at to : ℕ) (old now : List ℕ) : Type 0 where
   pub front : List ℕ
-  pub all_is : all ≡ front ++ left
+  pub all_is : all ≡ front ++ remaining
   pub to_is : to ≡ at + length front
   pub room : at + length all ≤ length old
   pub now_is : now ≡ (take at old ++ front) ++ drop to old
 
-pub one_put : (all left rest : List ℕ) (at to run : ℕ) (old now : List ℕ) → AreRunsPut all left at to old now
-    → left ≡ run ∷ rest → AreRunsPut all rest at (to + 1) old (set now to run)
-one_put all left rest at to run old now so_far is =
+pub one_put : (all remaining rest : List ℕ) (at to run : ℕ) (old now : List ℕ) → AreRunsPut all remaining at to old now
+    → remaining ≡ run ∷ rest → AreRunsPut all rest at (to + 1) old (set now to run)
+one_put all remaining rest at to run old now so_far is =
     let front = so_far.front in
     let begin = take at old ++ front in
     let all_is : all ≡ front ++ run ∷ rest = rw is at so_far.all_is in

@@ -9,16 +9,16 @@ use Rattle.std.proofs.lemmas.Option.{slice_get_within}
 use Rattle.fax_bits.specs.laws.Codes.{IsOne}
 use Rattle.fax_walk.specs.declared.cursor.Cursor.{Cursor}
 use Rattle.fax_walk.specs.declared.end.End.{End}
-use Rattle.fax_walk.specs.declared.end.End.TheVariants.{Proper, Fault, Outside}
+use Rattle.fax_walk.specs.declared.end.End.TheVariants.{EndOfPages, Fault, Outside}
 use Rattle.fax_walk.specs.Pages.{FormItem, IsForm, IsFormTail, ends_as, read_page}
 use Rattle.fax_walk.specs.views.InOrder.{EndsAfter, HasEndedAs, IsNumber}
-use Rattle.fax_walk.specs.views.Pages.{HandsOutPage, IsCursorOfPages, PagesView}
+use Rattle.fax_walk.specs.views.Pages.{YieldsPage, IsCursorOfPages, PagesView}
 use Rattle.fax_walk.specs.laws.Tails.{CursorsHaveOneFormTail}
-use Rattle.fax_c.specs.declared.filled.Stop.TheVariants.{Done, Ended}
+use Rattle.fax_c.specs.declared.fill.Stop.TheVariants.{Done, Ended}
 use Rattle.fax_c.specs.declared.forms.FaxForm.{FaxForm}
 use Rattle.fax_c.specs.code.CallSteps.{end_at_row}
 use Rattle.fax_c.specs.Forms.{AreFormsFilled, StopsAfterForms, cursor_after_pages, form_numbers}
-use Rattle.fax_c.specs.declared.filled.Stop.{Stop}
+use Rattle.fax_c.specs.declared.fill.Stop.{Stop}
 use Rattle.fax_walk.proofs.PageLawLemmas.{by_page, form_tail_of_page}
 use Rattle.fax_c.proofs.ListLemmas.{one_set, take_at}
 use Rattle.fax_c.proofs.ItemLemmas.{end_is, number_is}
@@ -39,23 +39,23 @@ pub record AreFormsWritten (file : List ℕ) (from : Cursor) (pages : PagesView)
   pub end : End
   pub tail : IsFormTail file from items end
   pub same_file : pages.file ≡ file
-  pub same_begun : pages.begun ≡ from
-  pub given : pages.given ≡ count
+  pub same_begun : pages.origin ≡ from
+  pub yielded : pages.yielded ≡ count
   pub few : count ≤ length items
   pub asked : count ≤ length old
   pub written : forms ≡ forms_of (take count items) ++ drop count old
 
-pub none_written : (pages : PagesView) (old : List FaxForm) → CursorsHaveOneFormTail → pages.given ≡ 0
-    → AreFormsWritten pages.file pages.begun pages 0 old old
+pub none_written : (pages : PagesView) (old : List FaxForm) → CursorsHaveOneFormTail → pages.yielded ≡ 0
+    → AreFormsWritten pages.file pages.origin pages 0 old old
 none_written pages old one none =
-    let tail = one pages.file pages.begun in
+    let tail = one pages.file pages.origin in
     record {
       items = tail.items;
       end = tail.end;
       tail = tail.is;
       same_file = refl;
       same_begun = refl;
-      given = none;
+      yielded = none;
       few = omega arith;
       asked = omega arith;
       written = refl;
@@ -63,27 +63,27 @@ none_written pages old one none =
 
 module _ {file : List ℕ} {from : Cursor} {pages : PagesView} {count : ℕ} {old forms : List FaxForm}
     (law : CursorsHaveOneFormTail) (so_far : AreFormsWritten file from pages count old forms) where
-  one_here : IsOne (IsFormTail pages.file pages.begun)
-  one_here = law pages.file pages.begun
+  one_here : IsOne (IsFormTail pages.file pages.origin)
+  one_here = law pages.file pages.origin
 
-  tail_here : IsFormTail pages.file pages.begun so_far.items so_far.end
+  tail_here : IsFormTail pages.file pages.origin so_far.items so_far.end
   tail_here = grind arith
 
-  item_is : (n : ℕ) (item : FormItem) → IsNumber (IsFormTail pages.file pages.begun) n item
+  item_is : (n : ℕ) (item : FormItem) → IsNumber (IsFormTail pages.file pages.origin) n item
       → slice_get so_far.items n ≡ Some item
-  item_is n item = number_is (IsFormTail pages.file pages.begun) one_here so_far.items so_far.end tail_here n item
+  item_is n item = number_is (IsFormTail pages.file pages.origin) one_here so_far.items so_far.end tail_here n item
 
   pub cursor_is : (at : Cursor) → IsCursorOfPages pages at → at ≡ cursor_after_pages from (take count so_far.items)
   cursor_is at (inl (none, is)) = grind arith
   cursor_is at (inr (before, item, given, number, is)) =
-      let count_is : count ≡ before + 1 = sym so_far.given ∙ given in
+      let count_is : count ≡ before + 1 = sym so_far.yielded ∙ given in
       rw (count_is, is, take_at so_far.items before item (item_is before item number), pages-push)
 
-  pub one_more : (new : PagesView) (item : FormItem) → count < length old → HandsOutPage pages item new
+  pub one_more : (new : PagesView) (item : FormItem) → count < length old → YieldsPage pages item new
       → AreFormsWritten file from new (count + 1) old (set forms count (form_numbers item.form))
   one_more new item below hands =
       let here : slice_get so_far.items count ≡ Some item =
-      rw so_far.given at (item_is pages.given item hands.0.number) in
+      rw so_far.yielded at (item_is pages.yielded item hands.0.number) in
       let inside = slice_get_within so_far.items count item here in
       let front = forms_of (take count so_far.items) in
       let len : length front ≡ count = rw (length-map, length-take-le count so_far.items so_far.few) in
@@ -94,8 +94,8 @@ module _ {file : List ℕ} {from : Cursor} {pages : PagesView} {count : ℕ} {ol
         end = so_far.end;
         tail = so_far.tail;
         same_file = ap (λ (p : PagesView). p.file) hands.0.new_is ∙ so_far.same_file;
-        same_begun = ap (λ (p : PagesView). p.begun) hands.0.new_is ∙ so_far.same_begun;
-        given = ap (λ (p : PagesView). p.given) hands.0.new_is ∙ ap (λ n. n + 1) so_far.given;
+        same_begun = ap (λ (p : PagesView). p.origin) hands.0.new_is ∙ so_far.same_begun;
+        yielded = ap (λ (p : PagesView). p.yielded) hands.0.new_is ∙ ap (λ n. n + 1) so_far.yielded;
         few = omega (arith, inside);
         asked = omega (arith, below);
         written = rw all (one_set front old forms count (form_numbers item.form) len below so_far.written);
@@ -121,9 +121,9 @@ module _ {file : List ℕ} {from : Cursor} {pages : PagesView} {count : ℕ} {ol
       → IsCursorOfPages pages at
       → AreFormsFilled file from old (record { cursor = at; count = count; used = 0; stop = Ended end }) forms
   ended end new at below ends is =
-      let are = end_is (IsFormTail pages.file pages.begun) one_here so_far.items so_far.end tail_here pages.given end
+      let are = end_is (IsFormTail pages.file pages.origin) one_here so_far.items so_far.end tail_here pages.yielded end
       ends.0 in
-      filled (Ended end) at is (below, sym so_far.given ∙ are.0, are.1)
+      filled (Ended end) at is (below, sym so_far.yielded ∙ are.0, are.1)
 
   pub all_asked : (at : Cursor) → length old ≤ count → IsCursorOfPages pages at
       → AreFormsFilled file from old (record { cursor = at; count = count; used = 0; stop = Done }) forms
@@ -145,6 +145,6 @@ no_page file page end (item ∷ all, tail, none) = absurd (omega (arith, none))
 pub no_row : (file : List ℕ) (page row : ℕ) (end : End) → read_page file (record { page = page; row = 0 }) ≡ Err end
     → read_page file (record { page = page; row = row }) ≡ Err (end_at_row end row)
 unfolding read_page
-no_row file page row Proper is = grind (arith, common_steps)
+no_row file page row EndOfPages is = grind (arith, common_steps)
 no_row file page row Outside is = grind (arith, common_steps)
 no_row file page row (Fault p r cause) is = grind (arith, common_steps)

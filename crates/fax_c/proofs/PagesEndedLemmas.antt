@@ -1,4 +1,4 @@
--- Pages that are told how many they are, in a file of the caller.
+-- Pages that are given how many they are, in a file of the caller.
 use Rattle.std.proofs.Common.{◌≡◌, ℕ, ◌+◌, ◌≤◌, false, List, [], ◌∷◌, ◌++◌, length, take, sym, ap, ◌∙◌, arith, inl, inr}
 use Rattle.std.proofs.lemmas.List.{length-append, length-take-le}
 use Rattle.std.proofs.lemmas.Bool.{ne_eqb}

@@ -1,4 +1,4 @@
--- What is told of the first bytes of a strip holds of all bytes, whatever follows.
+-- What is reported of the first bytes of a strip holds of all bytes, whatever follows.
 use Rattle.std.proofs.Common.{◌≡◌, ℕ, ◌+◌, ◌-◌, ◌*◌, ◌≤◌, List, [], ◌∷◌, ◌++◌, length, drop}
 use Rattle.std.proofs.Common.{Bool, refl, ap, sym, ◌∙◌}
 use Rattle.std.proofs.Common.{subst, arith, inl, inr, Option, Some, None, length-append}
@@ -8,7 +8,7 @@ use Rattle.std.proofs.lemmas.Grind.{flat_map-append}
 use Rattle.std.proofs.lemmas.Bool.{cases_lt}
 use Rattle.std.proofs.Math.ListN.{drop_of_length-le}
 use Rattle.fax_bits.specs.Bits.{bits, byte_bits}
-use Rattle.fax_bits.specs.laws.Codes.{AreBitsByPlace}
+use Rattle.fax_bits.specs.laws.Codes.{AreBitsByIndex}
 use Rattle.fax_rows.specs.Rows.{Colour}
 use Rattle.fax_page.specs.declared.Coding.{Coding}
 use Rattle.fax_page.specs.declared.Coding.TheVariants.{Mh, Mr, Mmr}
@@ -18,13 +18,13 @@ use Rattle.fax_page.specs.declared.StripFault.{StripFault}
 use Rattle.fax_page.specs.declared.StripForm.{StripForm}
 use Rattle.fax_page.specs.Lines.{IsCause}
 use Rattle.fax_page.specs.Strip.{AreLines, HasEndMark}
-use Rattle.fax_page.specs.Uncounted.{EndsSo, HasDataEnd, MayHaveEndMark}
+use Rattle.fax_page.specs.Uncounted.{RowsEndAs, HasDataEnd, MayHaveEndMark}
 use Rattle.fax_page.specs.declared.StripFault.TheVariants.{EndMarker}
 use Rattle.fax_page.proofs.MarkLemmas.{mark_may_follow}
 use Rattle.fax_page.specs.laws.Following.{EndsStayWhateverFollows, StaysWhateverFollows}
 use Rattle.fax_walk.specs.declared.cursor.Cursor.{Cursor}
-use Rattle.fax_c.specs.declared.filled.Filled.{Filled}
-use Rattle.fax_c.specs.declared.filled.Stop.{Stop}
+use Rattle.fax_c.specs.declared.fill.Filled.{Filled}
+use Rattle.fax_c.specs.declared.fill.Stop.{Stop}
 use Rattle.fax_c.specs.declared.places.FaxPlace.{FaxPlace}
 use Rattle.fax_c.specs.declared.strip_form.FaxStrip.{FaxStrip}
 use Rattle.fax_c.specs.declared.told.FaxTold.{FaxTold}
@@ -71,7 +71,7 @@ module _ (form : StripForm) (all : List Bool) where
   ends_within : (from : StripPlace) (rows : List (List Colour)) (to : StripPlace) → from.bits ≤ length all
       → ReadsTo form all from rows to → to.bits ≤ length all
   ends_within from [] to within reads = subst (λ (p : StripPlace). p.bits ≤ length all) reads within
-  ends_within from (row ∷ rows) to within (after, inside, due, line, reads) =
+  ends_within from (row ∷ rows) to within (after, inside, upcoming, line, reads) =
       ends_within (record { row = from.row + 1; bits = after; reference = row }) rows to inside reads
 
   -- the place in memory of the caller is the one up to which rows are read
@@ -87,11 +87,11 @@ module _ (form : StripForm) (all : List Bool) where
   place_is_to from rows to count old new reads count_is at (inr some) = (some.2.row, some.2.bits)
 
   -- where the strip stops its rows after others, the next one has room, and this is in its way
-  lines_by : (to : StripPlace) (page stride left : ℕ) (stop : Stop) (met : Option StripFault)
-      → met_in_strip stop ≡ Some met → StopsAt form all to page stride left stop
-      → (stride ≤ left) × AreLines form to.row to.reference (drop to.bits all) [] met (drop to.bits all)
-  lines_by to page stride left stop met by (inl (is, full)) = let none = ap met_in_strip (sym is) ∙ by in cc
-  lines_by to page stride left stop met by (inr (room, other, is, lines)) = (
+  lines_by : (to : StripPlace) (page stride remaining : ℕ) (stop : Stop) (met : Option StripFault)
+      → met_in_strip stop ≡ Some met → StopsAt form all to page stride remaining stop
+      → (stride ≤ remaining) × AreLines form to.row to.reference (drop to.bits all) [] met (drop to.bits all)
+  lines_by to page stride remaining stop met by (inl (is, full)) = let none = ap met_in_strip (sym is) ∙ by in cc
+  lines_by to page stride remaining stop met by (inr (room, other, is, lines)) = (
     room,
     subst (λ m. AreLines form to.row to.reference (drop to.bits all) [] m (drop to.bits all))
         (met_is page to.row stop other met is by) lines,
@@ -110,17 +110,17 @@ module _ (form : StripForm) (strip : List ℕ) (stride : ℕ) (place : FaxPlace)
   ahead_by runs room changes none = grind arith
 
   -- and one that may change after rows is the end of the data in the next one
-  unsettled_by : (given : FaxStrip) (to : StripPlace) (page left : ℕ) → StopMayChange form strip place stop
-      → StopsAt form (bits form.order strip) to page stride left stop
-      → (stride ≤ left) × IsUnsettled given form strip to
-  unsettled_by given to page left changes (inl (is, full)) = absurd (rw is at changes)
-  unsettled_by given to page left changes (inr (room, None, is, lines)) = absurd (rw is at changes)
-  unsettled_by given to page left changes (inr (room, Some fault, is, lines)) =
+  unsettled_by : (given : FaxStrip) (to : StripPlace) (page remaining : ℕ) → StopMayChange form strip place stop
+      → StopsAt form (bits form.order strip) to page stride remaining stop
+      → (stride ≤ remaining) × IsUnsettled given form strip to
+  unsettled_by given to page remaining changes (inl (is, full)) = absurd (rw is at changes)
+  unsettled_by given to page remaining changes (inr (room, None, is, lines)) = absurd (rw is at changes)
+  unsettled_by given to page remaining changes (inr (room, Some fault, is, lines)) =
       (room, inl (lines.1, rw (rw is at changes) at lines.2))
 
 module _ (stays : (form : StripForm) (i : ℕ) (reference : List Colour) → StaysWhateverFollows form i reference)
     (end_stays : EndsStayWhateverFollows)
-    (stand : AreBitsByPlace) (form : StripForm) (strip more : List ℕ) where
+    (stand : AreBitsByIndex) (form : StripForm) (strip more : List ℕ) where
   abbrev all : List Bool
   all = bits form.order strip
 
@@ -130,8 +130,8 @@ module _ (stays : (form : StripForm) (i : ℕ) (reference : List Colour) → Sta
   abbrev rest : List Bool
   rest = bits form.order more
 
-  from_place : (n : ℕ) → n ≤ length all → drop n whole ≡ drop n all ++ rest
-  from_place n within = ap (drop n) (bits_follow form.order strip more) ∙ drop-append-le n all rest within
+  at_bit_offset : (n : ℕ) → n ≤ length all → drop n whole ≡ drop n all ++ rest
+  at_bit_offset n within = ap (drop n) (bits_follow form.order strip more) ∙ drop-append-le n all rest within
 
   longer : length strip ≤ length (strip ++ more)
   longer = omega (arith, length-append strip more)
@@ -147,25 +147,25 @@ module _ (stays : (form : StripForm) (i : ℕ) (reference : List Colour) → Sta
       → ReadsTo form all from rows to
       → ReadsTo form whole from rows to
   reads_stay from [] to within reads = reads
-  reads_stay from (row ∷ rows) to within (after, inside, due, line, reads) =
+  reads_stay from (row ∷ rows) to within (after, inside, upcoming, line, reads) =
       let stay = (stays form from.row from.reference).row (drop from.bits all) rest row (drop after all) line in (
         after,
         omega (arith, inside, longer_bits),
-        due,
-        rw (from_place from.bits within, from_place after inside) stay,
+        upcoming,
+        rw (at_bit_offset from.bits within, at_bit_offset after inside) stay,
         reads_stay (record { row = from.row + 1; bits = after; reference = row }) rows to inside reads,
       )
 
-  stop_stays : (place : FaxPlace) (to : StripPlace) (page stride left : ℕ) (stop : Stop) → to.bits ≤ length all
-      → (StopMayChange form strip place stop → ⊥) → StopsAt form all to page stride left stop
-      → StopsAt form whole to page stride left stop
-  stop_stays place to page stride left stop within stay (inl full) = inl full
-  stop_stays place to page stride left stop within stay (inr (room, None, is, lines)) =
+  stop_stays : (place : FaxPlace) (to : StripPlace) (page stride remaining : ℕ) (stop : Stop) → to.bits ≤ length all
+      → (StopMayChange form strip place stop → ⊥) → StopsAt form all to page stride remaining stop
+      → StopsAt form whole to page stride remaining stop
+  stop_stays place to page stride remaining stop within stay (inl full) = inl full
+  stop_stays place to page stride remaining stop within stay (inr (room, None, is, lines)) =
       inr (room, None, is, (refl, lines.1))
-  stop_stays place to page stride left stop within stay (inr (room, Some fault, is, lines)) =
+  stop_stays place to page stride remaining stop within stay (inr (room, Some fault, is, lines)) =
       let cause = (stays form to.row to.reference).fault (drop to.bits all) rest fault
       (λ ends. stay (rw is ends)) lines.2 in
-      inr (room, Some fault, is, (refl, lines.1, rw (from_place to.bits within) cause))
+      inr (room, Some fault, is, (refl, lines.1, rw (at_bit_offset to.bits within) cause))
 
   none_stays : (stride : ℕ) (place : FaxPlace) (runs : List ℕ) (room : ℕ) (stop : Stop)
       → length (strip ++ more) ≤ 536870911 → (StopMayChange form strip place stop → ⊥)
@@ -177,28 +177,37 @@ module _ (stays : (form : StripForm) (i : ℕ) (reference : List Colour) → Sta
     inr (inl (
       is,
       other,
-      λ at due.
+      λ at upcoming.
           elim (cases_lt (8 * length strip) place.bits) [
             | inl beyond ↦
-                stay (rw is (omega (arith, due.0.row, due.1), beyond, omega (arith, due.0.bits, due.2, few)))
-            | inr within ↦ none at (due.0, due.1, omega (arith, due.0.bits, within))
+                stay (rw is (
+                  omega (arith, upcoming.0.row, upcoming.1),
+                  beyond,
+                  omega (
+                    arith,
+                    upcoming.0.bits,
+                    upcoming.2,
+                    few,
+                  ),
+                ))
+            | inr within ↦ none at (upcoming.0, upcoming.1, omega (arith, upcoming.0.bits, within))
           ],
     )),
   )
-  none_stays stride place runs room stop few stay (inr (has, inr (inr (is, at, (place_is, due, within))))) =
-      inr (has, inr (inr (is, at, (place_is, due, omega (arith, within, longer)))))
+  none_stays stride place runs room stop few stay (inr (has, inr (inr (is, at, (place_is, upcoming, within))))) =
+      inr (has, inr (inr (is, at, (place_is, upcoming, omega (arith, within, longer)))))
 
   -- what is read of these bytes is read of all
   reads_on_stays : (stride : ℕ) (old : StripMemory) (filled : Filled) (new : StripMemory)
       → length (strip ++ more) ≤ 536870911 → (StopMayChange form strip new.place filled.stop → ⊥)
       → ReadsOn form strip stride old filled new → ReadsOn form (strip ++ more) stride old filled new
-  reads_on_stays stride old filled new few stay (inl (room, from, to, due, read, after)) =
-      let within : from.bits ≤ length all = omega (arith, due.2, count_bits) in
+  reads_on_stays stride old filled new few stay (inl (room, from, to, upcoming, read, after)) =
+      let within : from.bits ≤ length all = omega (arith, upcoming.2, count_bits) in
       inl (
         room,
         from,
         to,
-        (due.0, due.1, omega (arith, due.2, longer)),
+        (upcoming.0, upcoming.1, omega (arith, upcoming.2, longer)),
         record {
           rows = read.rows;
           read = reads_stay from read.rows to within read.read;
@@ -225,9 +234,9 @@ module _ (stays : (form : StripForm) (i : ℕ) (reference : List Colour) → Sta
   cause_there : (stride : ℕ) (old : StripMemory) (filled : Filled) (new : StripMemory) (fault : StripFault)
       → met_in_strip filled.stop ≡ Some (Some fault) → ReadsOn form strip stride old filled new
       → HasCause new.place fault
-  cause_there stride old filled new fault by (inl (room, from, to, due, read, after)) =
-      let within : from.bits ≤ length all = omega (arith, due.2, count_bits) in
-      let there = place_is_to form all from read.rows to filled.count old new read.read read.count due.0 after in
+  cause_there stride old filled new fault by (inl (room, from, to, upcoming, read, after)) =
+      let within : from.bits ≤ length all = omega (arith, upcoming.2, count_bits) in
+      let there = place_is_to form all from read.rows to filled.count old new read.read read.count upcoming.0 after in
       let lines = lines_by form all to old.place.page stride (length old.raster - filled.used) filled.stop (Some fault)
       by read.stops in
       record {
@@ -249,12 +258,12 @@ module _ (stays : (form : StripForm) (i : ℕ) (reference : List Colour) → Sta
         | inr within ↦ within
       ]
 
-  -- where none may stand, and no row is due, the rows end as before
+  -- where none may stand, and no row is expected, the rows end as before
   unmarked_stays : (place : FaxPlace) → (MayHaveEndMark form.coding (drop place.bits all) → ⊥)
       → (HasDataEnd place.row (drop place.bits all) → ⊥)
       → (HasEndMark form.coding (drop place.bits whole) → ⊥) × (HasDataEnd place.row (drop place.bits whole) → ⊥)
   unmarked_stays place unmarked no_end =
-      let from = from_place place.bits (within_or_marked place.bits unmarked) in (
+      let from = at_bit_offset place.bits (within_or_marked place.bits unmarked) in (
         λ mark. unmarked (rest, rw from at mark),
         λ ends. no_end (end_stays.fill place.row (drop place.bits all) rest (rw from at ends)),
       )
@@ -262,10 +271,10 @@ module _ (stays : (form : StripForm) (i : ℕ) (reference : List Colour) → Sta
   ends_so_stays : (place : FaxPlace) (met : Option StripFault) (end : RowsEnd)
       → ((fault : StripFault) → met ≡ Some fault → HasCause place fault)
       → (MayChange form.coding (drop place.bits all) end → ⊥)
-      → EndsSo form.coding place.row (drop place.bits all) met end
-      → EndsSo form.coding place.row (drop place.bits whole) met end
+      → RowsEndAs form.coding place.row (drop place.bits all) met end
+      → RowsEndAs form.coding place.row (drop place.bits whole) met end
   ends_so_stays place met ends.Marked known stay so =
-      rw (from_place place.bits (mark_within form.coding place.bits all so))
+      rw (at_bit_offset place.bits (mark_within form.coding place.bits all so))
       (end_stays.mark form.coding place.row (drop place.bits all) rest met so)
   ends_so_stays place met ends.DataEnd known stay so = absurd (stay tt)
   ends_so_stays place met (ends.Fault fault) known stay so = elim (marker_or_not fault) [
@@ -274,7 +283,7 @@ module _ (stays : (form : StripForm) (i : ℕ) (reference : List Colour) → Sta
         (none.0, none.1, so.2)
     | inr other ↦
         let there = known fault so.2 in
-        rw (from_place place.bits there.within, so.2)
+        rw (at_bit_offset place.bits there.within, so.2)
         (end_stays.fault form there.i place.row there.reference (drop place.bits all) rest fault
         (λ is. stay (inl is)) other there.cause)
   ]
@@ -294,7 +303,7 @@ module _ (stays : (form : StripForm) (i : ℕ) (reference : List Colour) → Sta
       (uncounted, met, by, ends_so_stays new.place met end known (λ changes. stay (inr changes)) so)
 
 module _ (stays : (form : StripForm) (i : ℕ) (reference : List Colour) → StaysWhateverFollows form i reference)
-    (end_stays : EndsStayWhateverFollows) (stand : AreBitsByPlace)
+    (end_stays : EndsStayWhateverFollows) (stand : AreBitsByIndex)
     (asked : AskedStrip) (form : StripForm) (old : StripMemory) (filled : Filled) (new : StripMemory)
     (end : Option RowsEnd) (old_told told : FaxTold) (status : ℕ)
     (readable : IsReadableIn asked.strip asked.form form) (room_of_runs : most_runs ≤ length old.runs)
@@ -307,7 +316,7 @@ module _ (stays : (form : StripForm) (i : ℕ) (reference : List Colour) → Sta
     | inr uncounted ↦ inr (uncounted.0, (uncounted.1.0, few))
   ]
 
-  -- what is told of rows that stay is told of all bytes
+  -- what is reported of rows that stay is reported of all bytes
   pub settled : (MayGoOn form asked.strip new.place filled.stop end → ⊥) → IsReadTold filled new.place end told status
       → TellsStripPart asked old new old_told told status
   settled stay is = inl (
@@ -323,13 +332,13 @@ module _ (stays : (form : StripForm) (i : ℕ) (reference : List Colour) → Sta
   abbrev all_bits : List Bool
   all_bits = bits form.order asked.strip
 
-  -- rows that nobody counted end so, and may end otherwise
+  -- rows of a strip of unknown height end so, and may end otherwise
   record EndsOpen : Type 0 where
     uncounted : asked.form.rows ≡ 0
     met : Option StripFault
     by : met_in_strip filled.stop ≡ Some met
     its : RowsEnd
-    so : EndsSo form.coding new.place.row (drop new.place.bits all_bits) met its
+    so : RowsEndAs form.coding new.place.row (drop new.place.bits all_bits) met its
     changes : MayChange form.coding (drop new.place.bits all_bits) its
 
   ends_open : (end : Option RowsEnd) → EndMayChange form.coding (drop new.place.bits all_bits) end
@@ -350,7 +359,7 @@ module _ (stays : (form : StripForm) (i : ℕ) (reference : List Colour) → Sta
       let found = ends_open end changes at in
       let lines = lines_by form all_bits to old.place.page asked.stride (length old.raster - filled.used) filled.stop
       found.met found.by stops in
-      let so : EndsSo form.coding to.row (drop to.bits all_bits) found.met found.its = rw (row, bits_are) found.so in
+      let so : RowsEndAs form.coding to.row (drop to.bits all_bits) found.met found.its = rw (row, bits_are) found.so in
       (lines.0, inr (found.uncounted, found.met, found.its, lines.1, so, rw bits_are found.changes))
 
   -- and why it is not where nothing is read
@@ -366,7 +375,7 @@ module _ (stays : (form : StripForm) (i : ℕ) (reference : List Colour) → Sta
       let last = none_by form asked.strip asked.stride old.place filled.stop old.runs (length old.raster) found.met
       found.by none in
       let so = subst
-      (λ (m : StripMemory). EndsSo form.coding m.place.row (drop m.place.bits all_bits) found.met found.its) same
+      (λ (m : StripMemory). RowsEndAs form.coding m.place.row (drop m.place.bits all_bits) found.met found.its) same
       found.so in
       let changes = subst (λ (m : StripMemory). MayChange form.coding (drop m.place.bits all_bits) found.its) same
       found.changes in
@@ -374,12 +383,13 @@ module _ (stays : (form : StripForm) (i : ℕ) (reference : List Colour) → Sta
 
   awaits : IsMoreTold filled told status → MayGoOn form asked.strip new.place filled.stop end
       → ReadsOn form asked.strip asked.stride old filled new → AwaitsMore form asked old new told
-  awaits is found (inl (room, from, to, due, read, after)) =
-      let there = place_is_to form all_bits from read.rows to filled.count old new read.read read.count due.0 after in
-      let within : from.bits ≤ length all_bits = omega (arith, due.2, stand.count form.order asked.strip) in
+  awaits is found (inl (room, from, to, upcoming, read, after)) =
+      let there = place_is_to form all_bits from read.rows to filled.count old new read.read read.count upcoming.0 after
+      in
+      let within : from.bits ≤ length all_bits = omega (arith, upcoming.2, stand.count form.order asked.strip) in
       let part : ArePartRead form asked old new told to = record {
         from = from;
-        due = due;
+        upcoming = upcoming;
         rows = read.rows;
         read = λ more.
             reads_stay stays end_stays stand form asked.strip more from read.rows to within read.read;

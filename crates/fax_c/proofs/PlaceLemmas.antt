@@ -4,11 +4,11 @@ use Rattle.std.proofs.Common.{◌∙◌, arith, length-append, length-drop}
 use Rattle.std.specs.Prelude.{Some, None}
 use Rattle.std.proofs.lemmas.List.{take_at, drop_at, drop-drop}
 use Rattle.fax_rows.specs.Rows.{Colour, runs_of}
-use Rattle.fax_walk.specs.declared.begun.Begun.{Begun}
+use Rattle.fax_walk.specs.declared.walk_start.WalkStart.{WalkStart}
 use Rattle.fax_walk.specs.declared.cursor.Cursor.{Cursor}
-use Rattle.fax_walk.specs.declared.walk.PlaceInside.{PlaceInside}
-use Rattle.fax_walk.specs.Items.{begun_cursor}
-use Rattle.fax_walk.specs.Pages.{LongPlace}
+use Rattle.fax_walk.specs.declared.walk.LongCursorRef.{LongCursorRef}
+use Rattle.fax_walk.specs.Items.{start_cursor}
+use Rattle.fax_walk.specs.Pages.{LongCursorValue}
 use Rattle.fax_walk.specs.views.Walk.{HasPage, IsLongOf, WalkView, place_inside}
 use Rattle.fax_c.specs.declared.places.FaxPlace.{FaxPlace}
 use Rattle.fax_c.specs.views.Filled.{TakesRuns}
@@ -22,8 +22,8 @@ kept_past n m runs old before same =
     let more : m ≡ n + (m - n) = omega (arith, before) in
     rw (more, ← drop-drop (m - n) n runs, ← drop-drop (m - n) n old, same)
 
--- a place that is lent, and whose runs are written, is told
-pub inside_told : (walk : WalkView) (lent : PlaceInside) (count : ℕ) (old : FaxPlace) (old_runs runs : List ℕ)
+-- a place that is lent, and whose runs are written, is reported
+pub inside_told : (walk : WalkView) (lent : LongCursorRef) (count : ℕ) (old : FaxPlace) (old_runs runs : List ℕ)
     → IsLongOf walk (place_inside (Some lent)) → length (runs_of lent.reference.now) ≤ most_runs
     → IsPutAt (runs_of lent.reference.now) old_runs 0 (Some count) runs → IsInsideTold walk old old_runs
     (record { page = lent.at.page; row = lent.at.row; bits = lent.bits; runs = count }) runs
@@ -41,18 +41,19 @@ inside_told walk lent count old old_runs runs long few (count_is, within, runs_a
       ),
     )
 
--- a place that is lent, and whose runs have no room, is not told
-pub inside_untold : (walk : WalkView) (lent : PlaceInside) (old : FaxPlace) (old_runs runs : List ℕ)
+-- a place that is lent, and whose runs have no room, is not reported
+pub inside_untold : (walk : WalkView) (lent : LongCursorRef) (old : FaxPlace) (old_runs runs : List ℕ)
     → IsLongOf walk (place_inside (Some lent)) → IsPutAt (runs_of lent.reference.now) old_runs 0 None runs
     → IsInsideTold walk old old_runs old runs
 inside_untold walk lent old old_runs runs long (same, short) =
     let len : length runs ≡ length old_runs = ap (λ (l : List ℕ). length l) same in
-    let found : LongPlace = record { at = lent.at; bits = lent.bits; runs = runs_of lent.reference.now } in
+    let found : LongCursorValue = record { at = lent.at; bits = lent.bits; runs = runs_of lent.reference.now } in
     ((ap (drop most_runs) same, len), inl (refl, inr (found, long, omega (arith, len, short))))
 
 -- a walk from a place begins at its cursor
-pub begun_cursor-begun_of : (place : FaxPlace) (runs : List ℕ) → cursor_of place ≡ begun_cursor (place_begun place runs)
-begun_cursor-begun_of place runs = grind arith
+pub start_cursor-origin_of : (place : FaxPlace) (runs : List ℕ) → cursor_of place
+    ≡ start_cursor (place_begun place runs)
+start_cursor-origin_of place runs = grind arith
 
 -- a walk from a place inside a strip takes its runs
 pub takes_runs : (file : List ℕ) (place : FaxPlace) (runs : List ℕ) → 0 < place.runs → HasPage file place.page
@@ -64,16 +65,16 @@ pub stays : (file : List ℕ) (place : FaxPlace) (runs : List ℕ) (cursor : Cur
     → IsAfterRows file (place_begun place runs) cursor 0 place runs
 stays file place runs cursor (some, within) = grind arith
 
--- the place after the rows that a walk has handed out is told
+-- the place after the rows that a walk has returned is reported
 pub after_told : (walk : WalkView) (cursor : Cursor) (count : ℕ) (old place : FaxPlace) (old_runs runs : List ℕ)
-    → walk.given ≡ count → old ≡ place_at cursor → IsInsideTold walk old old_runs place runs
-    → IsAfterRows walk.file walk.begun cursor count place runs
+    → walk.yielded ≡ count → old ≡ place_at cursor → IsInsideTold walk old old_runs place runs
+    → IsAfterRows walk.file walk.origin cursor count place runs
 after_told walk cursor count old place old_runs runs given at (kept, told) =
     rw (← given) (elim told [ inl (same, why) ↦ inr (same ∙ at, why) | inr (has, long) ↦ inl (has, long) ])
 
 -- a place is the one after the rows of the same walk, however it is named
-pub after_of : {file other : List ℕ} {begun another : Begun} (cursor : Cursor) (count : ℕ) (place : FaxPlace)
-    (runs : List ℕ) → file ≡ other → begun ≡ another → IsAfterRows file begun cursor count place runs
+pub after_of : {file other : List ℕ} {origin another : WalkStart} (cursor : Cursor) (count : ℕ) (place : FaxPlace)
+    (runs : List ℕ) → file ≡ other → origin ≡ another → IsAfterRows file origin cursor count place runs
     → IsAfterRows other another cursor count place runs
 after_of cursor count place runs same begins is = rw (same, begins) at is
 

@@ -8,7 +8,7 @@ use Rattle.std.proofs.lemmas.List.Elements.{All-cons, All-head, All-nil, All-tai
 use Rattle.std.proofs.lemmas.Str.{IsUtf8-append, IsUtf8-from_ascii, IsUtf8-nil}
 use Rattle.std.proofs.lemmas.Str.Ascii.{IsAscii-from_all}
 use Rattle.fax_walk.specs.declared.cursor.Cursor.{Cursor}
-use Rattle.fax_walk.specs.Pages.{IsCursor, IsLongCursor, LongPlace, cursor_text, long_cursor_text, runs_text}
+use Rattle.fax_walk.specs.Pages.{IsCursor, IsLongCursor, LongCursorValue, cursor_text, long_cursor_text, runs_text}
 use Rattle.fax_walk.specs.laws.Cursors.{TextsNameOne}
 use Rattle.fax_c.specs.declared.places.FaxPlace.{FaxPlace}
 use Rattle.fax_c.specs.views.PlaceTexts.{NamesNoPlace, ReadsPlace}
@@ -55,7 +55,7 @@ runs_text_utf8 (run ∷ runs) all =
     IsUtf8-append _ _ (decimal_utf8 run (All-head (λ n. n < 2 ^ 32) run runs all))
     (more_runs_utf8 runs (All-tail (λ n. n < 2 ^ 32) run runs all))
 
-pub long_cursor_text_utf8 : (place : LongPlace) → IsLongCursor place → IsUtf8 (long_cursor_text place)
+pub long_cursor_text_utf8 : (place : LongCursorValue) → IsLongCursor place → IsUtf8 (long_cursor_text place)
 long_cursor_text_utf8 place is =
     let begin = IsUtf8-append _ _ second_kind (decimal_utf8 place.at.page is.cursor.page) in
     let row = with_number _ place.at.row begin is.cursor.row in
@@ -69,8 +69,8 @@ no_text text not = (
   λ place is same. absurd (not (subst IsUtf8 (sym same) (long_cursor_text_utf8 place is))),
 )
 
--- the place inside a strip that a text names is told, or it is not, and why
-pub place_read : (text : List ℕ) (found : LongPlace) (old place : FaxPlace) (old_runs runs : List ℕ) (status : ℕ)
+-- the place inside a strip that a text names is reported, or it is not, and why
+pub place_read : (text : List ℕ) (found : LongCursorValue) (old place : FaxPlace) (old_runs runs : List ℕ) (status : ℕ)
     → TextsNameOne → IsLongCursor found → text ≡ long_cursor_text found
     → IsPlaceTold found old old_runs status place runs
     → ReadsPlace text old old_runs place runs status

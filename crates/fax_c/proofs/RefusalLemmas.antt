@@ -1,4 +1,4 @@
--- Why a file is not converted, as it is told.
+-- Why a file is not converted, as it is reported.
 use Rattle.std.proofs.Common.{arith, ◌≡◌, ◌≢◌, ℕ, ◌⊎◌, List}
 use Rattle.fax_walk.specs.declared.options.ConvertFault.{ConvertFault}
 use Rattle.fax_walk.specs.declared.options.ConvertFault.TheVariants as Refused
@@ -7,7 +7,7 @@ use Rattle.fax_walk.specs.Converted.{IsNotConverted}
 use Rattle.fax_c.specs.ConversionTold.{no_output, refusal_of}
 use Rattle.fax_c.specs.code.CallerNumbers.{refusal_status}
 
--- a fault is told, or memory was refused
+-- a fault is reported, or memory was refused
 abbrev pub IsRefusalTold : List ℕ → Options → ConvertFault → Type 0
 IsRefusalTold file options fault =
     ((refusal_status fault ≡ 2) × IsNotConverted file options fault)

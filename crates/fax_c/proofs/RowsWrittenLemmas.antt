@@ -6,15 +6,15 @@ use Rattle.std.specs.Prelude.{Some, slice_get}
 use Rattle.std.proofs.lemmas.List.{length-drop, length-take-le}
 use Rattle.std.proofs.lemmas.Option.{slice_get_within}
 use Rattle.fax_rows.specs.Rows.{Colour}
-use Rattle.fax_walk.specs.declared.begun.Begun.{Begun}
+use Rattle.fax_walk.specs.declared.walk_start.WalkStart.{WalkStart}
 use Rattle.fax_walk.specs.declared.cursor.Cursor.{Cursor}
 use Rattle.fax_walk.specs.declared.end.End.{End}
-use Rattle.fax_walk.specs.Items.{RowItem, IsTailFrom, begun_cursor, cursor_after}
+use Rattle.fax_walk.specs.Items.{RowItem, IsTailFrom, start_cursor, cursor_after}
 use Rattle.fax_walk.specs.views.InOrder.{IsNumber}
 use Rattle.fax_walk.specs.views.Walk.{HasPage, WalkView, IsCursorOf}
 use Rattle.fax_walk.specs.laws.Tails.{BeginningsHaveOneTail}
-use Rattle.fax_c.specs.declared.filled.Stop.{Stop}
-use Rattle.fax_c.specs.declared.filled.Stop.TheVariants.{Done, Ended, Memory, NoRoom}
+use Rattle.fax_c.specs.declared.fill.Stop.{Stop}
+use Rattle.fax_c.specs.declared.fill.Stop.TheVariants.{Done, Ended, Memory, NoRoom}
 use Rattle.fax_c.specs.declared.rows.FaxRow.{FaxRow}
 use Rattle.fax_c.specs.views.Filled.{AreRowsFilled, StopsAfterRows, TakesRuns, all_numbers, cursor_after_rows, row_at}
 use Rattle.fax_c.specs.views.Filled.{rows_at}
@@ -45,14 +45,14 @@ cursor-push from [] item = refl
 cursor-push from (first ∷ items) item = cursor-push (cursor_after first) items item
 
 -- so many rows of a walk are written, in so many numbers
-pub record AreRowsWritten {N : Type 0} (numbers : List Colour → List N) (file : List ℕ) (begun : Begun)
+pub record AreRowsWritten {N : Type 0} (numbers : List Colour → List N) (file : List ℕ) (origin : WalkStart)
     (walk : WalkView) (count used : ℕ) (old_rows rows : List FaxRow) (old out : List N) : Type 0 where
   pub items : List RowItem
   pub end : End
-  pub tail : IsTailFrom file begun items end
+  pub tail : IsTailFrom file origin items end
   pub same_file : walk.file ≡ file
-  pub same_begun : walk.begun ≡ begun
-  pub given : walk.given ≡ count
+  pub same_begun : walk.origin ≡ origin
+  pub yielded : walk.yielded ≡ count
   pub few : count ≤ length items
   pub asked : count ≤ length old_rows
   pub used_is : used ≡ length (all_numbers numbers (take count items))
@@ -62,16 +62,16 @@ pub record AreRowsWritten {N : Type 0} (numbers : List Colour → List N) (file 
   pub written : out ≡ all_numbers numbers (take count items) ++ drop used old
 
 pub none_written : {N : Type 0} (numbers : List Colour → List N) (walk : WalkView) (rows : List FaxRow) (out : List N)
-    → BeginningsHaveOneTail → walk.given ≡ 0 → AreRowsWritten numbers walk.file walk.begun walk 0 0 rows rows out out
+    → BeginningsHaveOneTail → walk.yielded ≡ 0 → AreRowsWritten numbers walk.file walk.origin walk 0 0 rows rows out out
 none_written numbers walk rows out one none =
-    let tail = one walk.file walk.begun in
+    let tail = one walk.file walk.origin in
     record {
       items = tail.items;
       end = tail.end;
       tail = tail.is;
       same_file = refl;
       same_begun = refl;
-      given = none;
+      yielded = none;
       few = omega arith;
       asked = omega arith;
       used_is = refl;
@@ -81,31 +81,31 @@ none_written numbers walk rows out one none =
       written = refl;
     }
 
-module _ {N : Type 0} {numbers : List Colour → List N} {file : List ℕ} {begun : Begun} {walk : WalkView}
+module _ {N : Type 0} {numbers : List Colour → List N} {file : List ℕ} {origin : WalkStart} {walk : WalkView}
     {count used : ℕ} {old_rows rows : List FaxRow} {old out : List N} (law : BeginningsHaveOneTail)
-    (so_far : AreRowsWritten numbers file begun walk count used old_rows rows old out) where
-  tail_here : IsTailFrom walk.file walk.begun so_far.items so_far.end
+    (so_far : AreRowsWritten numbers file origin walk count used old_rows rows old out) where
+  tail_here : IsTailFrom walk.file walk.origin so_far.items so_far.end
   tail_here = grind arith
 
-  item_is : (n : ℕ) (item : RowItem) → IsNumber (IsTailFrom walk.file walk.begun) n item
+  item_is : (n : ℕ) (item : RowItem) → IsNumber (IsTailFrom walk.file walk.origin) n item
       → slice_get so_far.items n ≡ Some item
   item_is n item =
-      number_is (IsTailFrom walk.file walk.begun) (law walk.file walk.begun) so_far.items so_far.end tail_here n item
+      number_is (IsTailFrom walk.file walk.origin) (law walk.file walk.origin) so_far.items so_far.end tail_here n item
 
-  next_is : (item : RowItem) → IsNumber (IsTailFrom walk.file walk.begun) walk.given item
+  next_is : (item : RowItem) → IsNumber (IsTailFrom walk.file walk.origin) walk.yielded item
       → slice_get so_far.items count ≡ Some item
-  next_is item number = rw so_far.given at (item_is walk.given item number)
+  next_is item number = rw so_far.yielded at (item_is walk.yielded item number)
 
-  pub cursor_is : (at : Cursor) → IsCursorOf walk at → at ≡ cursor_after_rows (begun_cursor begun)
+  pub cursor_is : (at : Cursor) → IsCursorOf walk at → at ≡ cursor_after_rows (start_cursor origin)
       (take count so_far.items)
   cursor_is at (inl (none, is)) = grind arith
   cursor_is at (inr (before, item, given, number, is)) =
-      let count_is : count ≡ before + 1 = sym so_far.given ∙ given in
+      let count_is : count ≡ before + 1 = sym so_far.yielded ∙ given in
       rw (count_is, is, take_at so_far.items before item (item_is before item number), cursor-push)
 
   pub one_more : (row : FaxRow) (new : WalkView) (new_out : List N) → count < length old_rows
       → IsPut numbers walk out used (Ok row) new new_out
-      → AreRowsWritten numbers file begun new (count + 1) (used + row.len) old_rows (set rows count row) old new_out
+      → AreRowsWritten numbers file origin new (count + 1) (used + row.len) old_rows (set rows count row) old new_out
   one_more row new new_out below (item, hands, row_is, put) =
       let here = next_is item hands.number in
       let inside = slice_get_within so_far.items count item here in
@@ -128,8 +128,8 @@ module _ {N : Type 0} {numbers : List Colour → List N} {file : List ℕ} {begu
         end = so_far.end;
         tail = so_far.tail;
         same_file = ap (λ (w : WalkView). w.file) hands.new_is ∙ so_far.same_file;
-        same_begun = ap (λ (w : WalkView). w.begun) hands.new_is ∙ so_far.same_begun;
-        given = ap (λ (w : WalkView). w.given) hands.new_is ∙ ap (λ n. n + 1) so_far.given;
+        same_begun = ap (λ (w : WalkView). w.origin) hands.new_is ∙ so_far.same_begun;
+        yielded = ap (λ (w : WalkView). w.yielded) hands.new_is ∙ ap (λ n. n + 1) so_far.yielded;
         few = omega (arith, inside);
         asked = omega (arith, below);
         used_is = rw (all, length-append, len, ← so_far.used_is);
@@ -142,29 +142,29 @@ module _ {N : Type 0} {numbers : List Colour → List N} {file : List ℕ} {begu
   -- the same of a row that no table has
   pub put_row : (to : ℕ) (new : WalkView) (new_out : List N) → count < length old_rows
       → (put : IsPutTo numbers walk out used (Ok to) new new_out)
-      → AreRowsWritten numbers file begun new (count + 1) to old_rows (set rows count (row_at numbers used put.0)) old
+      → AreRowsWritten numbers file origin new (count + 1) to old_rows (set rows count (row_at numbers used put.0)) old
       new_out
   put_row to new new_out below (item, hands, put) =
       rw put.0 (one_more (row_at numbers used item) new new_out below (item, hands, refl, (rw put.0 at put)))
 
   stops : (stop : Stop) (new : WalkView) (new_out : List N) → count < length old_rows
       → IsPut numbers walk out used (Err stop) new new_out
-      → StopsAfterRows numbers file begun so_far.items so_far.end (length old_rows) (length old) count used stop
+      → StopsAfterRows numbers file origin so_far.items so_far.end (length old_rows) (length old) count used stop
       × (new_out ≡ out)
   stops Done new new_out below put = absurd put
   stops (Ended end) new new_out below ((ends, no_other, new_is), same) =
-      let are = end_is (IsTailFrom walk.file walk.begun) (law walk.file walk.begun) so_far.items so_far.end tail_here
-      walk.given end ends in
-      ((below, sym so_far.given ∙ are.0, are.1), same)
+      let are = end_is (IsTailFrom walk.file walk.origin) (law walk.file walk.origin) so_far.items so_far.end tail_here
+      walk.yielded end ends in
+      ((below, sym so_far.yielded ∙ are.0, are.1), same)
   stops NoRoom new new_out below (item, hands, (same, small)) =
       ((below, (item, next_is item hands.number, omega (arith, small, so_far.same_len))), same)
   stops Memory new new_out below (enters, new_is, same) =
-      ((below, inl (rw (so_far.same_file, so_far.same_begun, so_far.given) at enters)), same)
+      ((below, inl (rw (so_far.same_file, so_far.same_begun, so_far.yielded) at enters)), same)
 
   -- the rows so far are all, where there is a reason
   filled : (stop : Stop) (at : Cursor) → IsCursorOf walk at
-      → StopsAfterRows numbers file begun so_far.items so_far.end (length old_rows) (length old) count used stop
-      → AreRowsFilled numbers file begun old_rows old (record { cursor = at; count = count; used = used; stop = stop })
+      → StopsAfterRows numbers file origin so_far.items so_far.end (length old_rows) (length old) count used stop
+      → AreRowsFilled numbers file origin old_rows old (record { cursor = at; count = count; used = used; stop = stop })
       rows out
   filled stop at is why = record {
     items = so_far.items;
@@ -181,27 +181,27 @@ module _ {N : Type 0} {numbers : List Colour → List N} {file : List ℕ} {begu
 
   pub stopped : (stop : Stop) (new : WalkView) (new_out : List N) (at : Cursor) → count < length old_rows
       → IsPut numbers walk out used (Err stop) new new_out → IsCursorOf walk at
-      → AreRowsFilled numbers file begun old_rows old (record { cursor = at; count = count; used = used; stop = stop })
+      → AreRowsFilled numbers file origin old_rows old (record { cursor = at; count = count; used = used; stop = stop })
       rows new_out
   stopped stop new new_out at below put is =
       let (why, same) = stops stop new new_out below put in rw same (filled stop at is why)
 
   pub all_asked : (at : Cursor) → length old_rows ≤ count → IsCursorOf walk at
-      → AreRowsFilled numbers file begun old_rows old (record { cursor = at; count = count; used = used; stop = Done })
+      → AreRowsFilled numbers file origin old_rows old (record { cursor = at; count = count; used = used; stop = Done })
       rows out
   all_asked at all is = filled Done at is (omega (arith, so_far.asked, all))
 
   pub walk_stopped : (first : WalkView) (stop : Stop) (new : WalkView) (new_out : List N) (at : Cursor)
-      → file ≡ first.file → begun ≡ first.begun → IsPut numbers walk out used (Err stop) new new_out
+      → file ≡ first.file → origin ≡ first.origin → IsPut numbers walk out used (Err stop) new new_out
       → IsWalkAfter first (record { cursor = at; count = count; used = used; stop = stop }) new
   walk_stopped first stop new new_out at of begins put = grind arith
 
 -- where memory is refused before a walk begins, nothing is written
-module _ {N : Type 0} (numbers : List Colour → List N) (file : List ℕ) (begun : Begun) (at : Cursor)
-    (rows : List FaxRow) (out : List N) (is : at ≡ begun_cursor begun) where
-  none_filled : (stop : Stop) (items : List RowItem) (end : End) → IsTailFrom file begun items end
-      → StopsAfterRows numbers file begun items end (length rows) (length out) 0 0 stop
-      → AreRowsFilled numbers file begun rows out (record { cursor = at; count = 0; used = 0; stop = stop }) rows out
+module _ {N : Type 0} (numbers : List Colour → List N) (file : List ℕ) (origin : WalkStart) (at : Cursor)
+    (rows : List FaxRow) (out : List N) (is : at ≡ start_cursor origin) where
+  none_filled : (stop : Stop) (items : List RowItem) (end : End) → IsTailFrom file origin items end
+      → StopsAfterRows numbers file origin items end (length rows) (length out) 0 0 stop
+      → AreRowsFilled numbers file origin rows out (record { cursor = at; count = 0; used = 0; stop = stop }) rows out
   none_filled stop items end tail stops = record {
     items = items;
     end = end;
@@ -215,13 +215,13 @@ module _ {N : Type 0} (numbers : List Colour → List N) (file : List ℕ) (begu
     stops = stops;
   }
 
-  pub refused_at_once : (stop : Stop) → BeginningsHaveOneTail → (HasPage file at.page → TakesRuns file begun 0)
+  pub refused_at_once : (stop : Stop) → BeginningsHaveOneTail → (HasPage file at.page → TakesRuns file origin 0)
       → IsRefusedAt file at (length rows) stop
-      → AreRowsFilled numbers file begun rows out (record { cursor = at; count = 0; used = 0; stop = stop }) rows out
+      → AreRowsFilled numbers file origin rows out (record { cursor = at; count = 0; used = 0; stop = stop }) rows out
   refused_at_once Done one takes none =
-      let tail = one file begun in none_filled Done tail.items tail.end tail.is (sym none)
+      let tail = one file origin in none_filled Done tail.items tail.end tail.is (sym none)
   refused_at_once Memory one takes (some, page) =
-      let tail = one file begun in none_filled Memory tail.items tail.end tail.is (some, inr (takes page))
+      let tail = one file origin in none_filled Memory tail.items tail.end tail.is (some, inr (takes page))
   refused_at_once (Ended end) one takes (some, none) =
       none_filled (Ended end) [] end (Err end, rw (rw is at none), (refl, refl)) (some, refl, refl)
   refused_at_once NoRoom one takes refused = absurd refused

@@ -10,29 +10,29 @@ use Rattle.fax_rows.specs.Coded.{packed_len}
 use Rattle.std.proofs.lemmas.Nat.{mod-mul-add}
 use Rattle.fax_page.specs.Lines.{white_row}
 use Rattle.fax_page.specs.declared.PlaceFault.TheVariants.{Memory as no_memory, Outside as no_such_place}
-use Rattle.fax_page.specs.declared.RowBefore.{RowBefore}
-use Rattle.fax_page.specs.declared.RowBefore.TheVariants.{Runs, White as White_row_before}
+use Rattle.fax_page.specs.declared.ReferenceRow.{ReferenceRow}
+use Rattle.fax_page.specs.declared.ReferenceRow.TheVariants.{Runs, White as White_row_before}
 use Rattle.fax_page.specs.views.Reader.{IsBefore}
 use Rattle.fax_files.specs.declared.Cause.{Cause}
 use Rattle.fax_walk.specs.declared.cursor.Cursor.{Cursor}
-use Rattle.fax_walk.specs.declared.end.End.TheVariants.{Fault, Proper, Outside}
-use Rattle.fax_walk.specs.declared.salvage.Stretch.{Stretch}
-use Rattle.fax_walk.specs.declared.salvage_rows.PagePart.TheVariants.{Found, Lost}
-use Rattle.fax_walk.specs.declared.salvage_rows.PlaceInStrip.{PlaceInStrip}
-use Rattle.fax_walk.specs.Items.{Inner}
+use Rattle.fax_walk.specs.declared.end.End.TheVariants.{Fault, EndOfPages, Outside}
+use Rattle.fax_walk.specs.declared.salvage.LostRows.{LostRows}
+use Rattle.fax_walk.specs.declared.salvage_rows.SalvagedPart.TheVariants.{Found, Lost}
+use Rattle.fax_walk.specs.declared.salvage_rows.StripPositionRef.{StripPositionRef}
+use Rattle.fax_walk.specs.Items.{StripPosition}
 use Rattle.fax_walk.specs.Pages.{FilePage}
-use Rattle.fax_walk.specs.Salvaged.{PageRow, LeftItem, row_found, page_items}
+use Rattle.fax_walk.specs.Salvaged.{PageRow, SalvagedItem, row_found, page_items}
 use Rattle.fax_walk.specs.Salvaged.{AreRowsFrom, IsRowOfStrip}
 use Rattle.fax_walk.specs.views.RowsFrom.{RowsFromView, AreLeftNow, EndsWithPage, IsNextFrom, IsPlaceNow}
-use Rattle.fax_walk.specs.views.RowsFrom.{IsInnerOf, IsNotBegunFrom, PassesOver, row_due}
+use Rattle.fax_walk.specs.views.RowsFrom.{IsInnerOf, IsNotStartedFrom, PassesOver, upcoming_row}
 use Rattle.fax_walk.specs.code.SalvagePage.{longer, rows_of, with_lost}
 use Rattle.fax_walk.proofs.SalvagePageLemmas.{lost_on}
-use Rattle.fax_c.specs.declared.filled.Filled.{Filled}
-use Rattle.fax_c.specs.declared.filled.Stop.{Stop}
-use Rattle.fax_c.specs.declared.filled.Stop.TheVariants.{Done, Ended, Memory, NoRoom}
+use Rattle.fax_c.specs.declared.fill.Filled.{Filled}
+use Rattle.fax_c.specs.declared.fill.Stop.{Stop}
+use Rattle.fax_c.specs.declared.fill.Stop.TheVariants.{Done, Ended, Memory, NoRoom}
 use Rattle.fax_c.specs.declared.places.FaxPlace.{FaxPlace}
 use Rattle.fax_c.specs.declared.salvaged_raster.FaxLost.{FaxLost}
-use Rattle.fax_c.specs.declared.salvage_from.Ahead.{Ahead}
+use Rattle.fax_c.specs.declared.salvage_from.SkippedRows.{SkippedRows}
 use Rattle.fax_c.specs.Raster.{padded_row}
 use Rattle.fax_c.specs.SalvagedRaster.{found_of, lost_from, lost_of}
 use Rattle.fax_c.specs.code.CallSteps.{IsPutAt}
@@ -77,31 +77,32 @@ passes_on first later one two = record {
   followed = λ rows is. rw append_assoc (one.followed (later ++ rows) (two.followed rows is));
 }
 
-passes_none : (a : RowsFromView) → row_due a ≤ a.here.form.rows → PassesOver a [] a
+passes_none : (a : RowsFromView) → upcoming_row a ≤ a.here.form.rows → PassesOver a [] a
 passes_none a within = grind arith
 
 -- a stretch that a row ends which is found
-pub lost_then : (lost : Option Stretch) (page row : ℕ) (pels : List Colour) (items : List LeftItem)
+pub lost_then : (lost : Option LostRows) (page row : ℕ) (pels : List Colour) (items : List SalvagedItem)
     → lost_of (with_lost lost (row_found page row pels ∷ items)) ≡ stretches_of lost ++ lost_of items
 lost_then None page row pels items = refl
 lost_then (Some stretch) page row pels items = refl
 
-pub lost_last : (lost : Option Stretch) → lost_of (with_lost lost []) ≡ stretches_of lost ++ []
+pub lost_last : (lost : Option LostRows) → lost_of (with_lost lost []) ≡ stretches_of lost ++ []
 lost_last None = refl
 lost_last (Some stretch) = refl
 
 module _ (first : RowsFromView) (page row : ℕ) where
   -- rows are passed that are all lost
-  pub record AreLostSoFar (now : RowsFromView) (due : ℕ) (lost : Option Stretch) : Type 0 where
+  pub record AreLostSoFar (now : RowsFromView) (upcoming : ℕ) (lost : Option LostRows) : Type 0 where
     pub over : List PageRow
     pub passes : PassesOver first over now
-    pub due_is : due ≡ row + length over
-    pub at : row_due now ≡ due
+    pub due_is : upcoming ≡ row + length over
+    pub at : upcoming_row now ≡ upcoming
     pub none : found_of over ≡ []
-    pub items : (rows : List PageRow) → page_items page row (over ++ rows) ≡ with_lost lost (page_items page due rows)
-    pub few : rows_of lost ≤ due
+    pub items : (rows : List PageRow) → page_items page row (over ++ rows)
+        ≡ with_lost lost (page_items page upcoming rows)
+    pub few : rows_of lost ≤ upcoming
 
-  pub none_lost : row_due first ≡ row → row ≤ first.here.form.rows → AreLostSoFar first row None
+  pub none_lost : upcoming_row first ≡ row → row ≤ first.here.form.rows → AreLostSoFar first row None
   none_lost at within = record {
     over = [];
     passes = passes_none first (omega (arith, at, within));
@@ -112,11 +113,11 @@ module _ (first : RowsFromView) (page row : ℕ) where
     few = omega arith;
   }
 
-module _ {first now new : RowsFromView} {page row due : ℕ} {lost : Option Stretch}
-    (so_far : AreLostSoFar first page row now due lost) where
+module _ {first now new : RowsFromView} {page row upcoming : ℕ} {lost : Option LostRows}
+    (so_far : AreLostSoFar first page row now upcoming lost) where
   -- more are lost
   pub more_lost : (n : ℕ) (cause : Cause) → IsNextFrom now (Some (Lost n cause)) new
-      → AreLostSoFar first page row new (due + n) (Some (longer lost page due n cause))
+      → AreLostSoFar first page row new (upcoming + n) (Some (longer lost page upcoming n cause))
   more_lost n cause (some, passes) =
       let others : List PageRow = replicate n (Err cause) in
       let len : length others ≡ n = length-replicate n (Err cause) in
@@ -126,26 +127,26 @@ module _ {first now new : RowsFromView} {page row due : ℕ} {lost : Option Stre
         due_is = omega (arith, so_far.due_is, length-append so_far.over others, len);
         at = omega (arith, passes.next, so_far.at, len);
         none = rw (found_append, so_far.none) (none_found n cause);
-        items = λ rows. rw (append_assoc, so_far.items) (lost_on lost page due n cause rows some);
+        items = λ rows. rw (append_assoc, so_far.items) (lost_on lost page upcoming n cause rows some);
         few = grind (arith, so_far.few);
       }
 
   -- the next one is found
   pub found_ahead : IsNextFrom now (Some Found) new
-      → IsAhead first page row (record { row = due + 1; lost = lost; found = true }) new
+      → IsAhead first page row (record { row = upcoming + 1; lost = lost; found = true }) new
   found_ahead (passes, none, ends) = record {
     over = so_far.over ++ Ok new.last ∷ [];
     passes = passes_on so_far.over (Ok new.last ∷ []) so_far.passes passes;
     row_is = omega (arith, so_far.due_is, length_push so_far.over (Ok new.last));
     lost_are = λ rows _. rw (append_assoc, so_far.items)
-        (lost_then lost page due new.last (page_items page (due + 1) rows));
+        (lost_then lost page upcoming new.last (page_items page (upcoming + 1) rows));
     found = λ _. (rw (found_append, so_far.none), (so_far.over, new.last, refl), none, ends);
     ended = λ not. absurd cc;
   }
 
   -- no other is left
   pub none_ahead : IsNextFrom now None new
-      → IsAhead first page row (record { row = due; lost = lost; found = false }) new
+      → IsAhead first page row (record { row = upcoming; lost = lost; found = false }) new
   none_ahead (passes, all, are, alone) = record {
     over = so_far.over ++ [];
     passes = passes_on so_far.over [] so_far.passes passes;
@@ -165,12 +166,12 @@ none_later (x ∷ y ∷ over) later none ([], row, is) = cc
 none_later (x ∷ over) later none (y ∷ before, row, is) = none_later over later none (before, row, cc)
 
 -- no stretch stands among no rows
-no_stretch : (lost : Option Stretch) → [] ≡ stretches_of lost ++ [] → lost ≡ None
+no_stretch : (lost : Option LostRows) → [] ≡ stretches_of lost ++ [] → lost ≡ None
 no_stretch None same = refl
 no_stretch (Some stretch) same = cc
 
 -- stretches are written after others, where one more has room
-stretches_put : (closed old now new : List FaxLost) (ahead : Option Stretch) (count to : ℕ)
+stretches_put : (closed old now new : List FaxLost) (ahead : Option LostRows) (count to : ℕ)
     → now ≡ closed ++ drop count old → count ≡ length closed → length now ≡ length old → count < length old
     → IsStretchPut ahead now count to new
     → (new ≡ (closed ++ stretches_of ahead) ++ drop to old) × (to ≡ length (closed ++ stretches_of ahead))
@@ -181,27 +182,30 @@ stretches_put closed old now new (Some stretch) count to so_far count_is len roo
 
 module _ (first : RowsFromView) (page row stride : ℕ) (old : List ℕ) (old_lost : List FaxLost) where
   -- so much is written
-  pub record AreWrittenSoFar (now : RowsFromView) (due count used stretches : ℕ) (out : List ℕ) (lost : List FaxLost)
+  pub record AreWrittenSoFar (now : RowsFromView) (upcoming count used stretches : ℕ) (out : List ℕ) (lost : List
+      FaxLost)
       : Type 0 where
     pub over : List PageRow
     pub passes : PassesOver first over now
-    pub due_is : due ≡ row + length over
-    pub at : row_due now ≡ due
+    pub due_is : upcoming ≡ row + length over
+    pub at : upcoming_row now ≡ upcoming
     pub count_is : count ≡ length (found_of over)
     pub bytes : length (flat_map (padded_row stride) (found_of over)) ≡ used
     pub used_is : used ≡ count * stride
     pub within : used ≤ length old
     pub written : out ≡ flat_map (padded_row stride) (found_of over) ++ drop used old
     pub closed : List FaxLost
-    pub stretches_are : (rows : List PageRow) → lost_from page row (over ++ rows) ≡ closed ++ lost_from page due rows
+    pub stretches_are : (rows : List PageRow) → lost_from page row (over ++ rows) ≡ closed
+        ++ lost_from page upcoming rows
     pub stretches_is : stretches ≡ length closed
     pub put : lost ≡ closed ++ drop stretches old_lost
     pub fits : stretches ≤ length old_lost
-    pub few : stretches + row ≤ due
+    pub few : stretches + row ≤ upcoming
     pub ends : ((used ≡ 0) × (stretches ≡ 0))
         ⊎ (StopsNoLater over stretches (length old_lost) × (now.reader.before ≡ None) × EndsWithPage now)
 
-  pub nothing_written : row_due first ≡ row → row ≤ first.here.form.rows → AreWrittenSoFar first row 0 0 0 old old_lost
+  pub nothing_written : upcoming_row first ≡ row → row ≤ first.here.form.rows
+      → AreWrittenSoFar first row 0 0 0 old old_lost
   nothing_written at within = record {
     over = [];
     passes = passes_none first (omega (arith, at, within));
@@ -221,10 +225,10 @@ module _ (first : RowsFromView) (page row stride : ℕ) (old : List ℕ) (old_lo
     ends = inl (refl, refl);
   }
 
-module _ {first now : RowsFromView} {page row stride due count used stretches : ℕ} {old out : List ℕ}
+module _ {first now : RowsFromView} {page row stride upcoming count used stretches : ℕ} {old out : List ℕ}
     {old_lost lost : List FaxLost}
-    (so_far : AreWrittenSoFar first page row stride old old_lost now due count used stretches out lost) where
-  module _ {new : RowsFromView} {ahead : Ahead} (next : IsAhead now page due ahead new)
+    (so_far : AreWrittenSoFar first page row stride old old_lost now upcoming count used stretches out lost) where
+  module _ {new : RowsFromView} {ahead : SkippedRows} (next : IsAhead now page upcoming ahead new)
       (len_lost : length lost ≡ length old_lost) (room : stretches < length old_lost) (to : ℕ)
       (new_lost : List FaxLost) (stretch : IsStretchPut ahead.lost lost stretches to new_lost) where
     abbrev its_over : List PageRow
@@ -249,7 +253,7 @@ module _ {first now : RowsFromView} {page row stride due count used stretches : 
         len_lost room stretch
 
     -- where no row is lost, no stretch is put
-    none_put : lost_from page due (next.over ++ []) ≡ [] → to ≡ stretches
+    none_put : lost_from page upcoming (next.over ++ []) ≡ [] → to ≡ stretches
     none_put none = (rw (no_stretch ahead.lost (sym none ∙ next.lost_are [] (λ _. refl))) at stretch).0
 
     -- a row that is found
@@ -304,7 +308,8 @@ module _ {first now : RowsFromView} {page row stride due count used stretches : 
     -- no other row is left
     pub ended : ahead.found ≡ false → HasRoomForBoth (length old) used stride stretches (length old_lost)
         → AreRowsFilled page row stride first old old_lost
-        (record { cursor = record { page = page; row = ahead.row }; count = count; used = to; stop = Ended Proper }) new
+        (record { cursor = record { page = page; row = ahead.row }; count = count; used = to; stop = Ended EndOfPages })
+        new
         out new_lost
     ended is has_room =
         let (none, all, alone) = next.ended is in
@@ -317,9 +322,9 @@ module _ {first now : RowsFromView} {page row stride due count used stretches : 
           within = omega (arith, all);
           ends = inl all;
           with_page = λ _. alone;
-          written = λ rest left. (
+          written = λ rest remaining. (
             its_over ++ rest,
-            its_passes.followed rest left,
+            its_passes.followed rest remaining,
             record {
               over = its_over;
               split = refl;
@@ -328,7 +333,7 @@ module _ {first now : RowsFromView} {page row stride due count used stretches : 
               cursor = ap (λ n. record { page = page; row = n }) due_next;
               written = rw (found_are, ← so_far.used_is) so_far.written;
               lost_are = rw lost_are its_put.0;
-              stops = (alone rest left, λ ends. not_full (none_later so_far.over next.over none ends));
+              stops = (alone rest remaining, λ ends. not_full (none_later so_far.over next.over none ends));
             },
           );
         }
@@ -336,13 +341,21 @@ module _ {first now : RowsFromView} {page row stride due count used stretches : 
         -- where all stretches had ended, one more had room
         not_full : next.over ≡ [] → IsFull (length old) (count * stride) stride to (length old_lost) → ⊥
         not_full nothing full =
-            omega (arith, full, so_far.used_is, has_room, none_put (ap (λ l. lost_from page due (l ++ [])) nothing))
+            omega (
+              arith,
+              full,
+              so_far.used_is,
+              has_room,
+              none_put (ap (λ l. lost_from page upcoming (l
+                  ++ [])) nothing),
+            )
 
   -- no more has room
   pub is_done : HasRoomForBoth (length old) 0 stride 0 (length old_lost)
       → IsFull (length old) used stride stretches (length old_lost)
       → AreRowsFilled page row stride first old old_lost
-      (record { cursor = record { page = page; row = due }; count = count; used = stretches; stop = Done }) now out lost
+      (record { cursor = record { page = page; row = upcoming }; count = count; used = stretches; stop = Done }) now out
+      lost
   is_done room full = elim so_far.ends [
     | inl none ↦ absurd (omega (arith, full, none, room))
     | inr (ends, none, with_page) ↦
@@ -354,9 +367,9 @@ module _ {first now : RowsFromView} {page row stride due count used stretches : 
           within = omega (arith, so_far.passes.within, ap (λ (p : FilePage). p.form.rows) so_far.passes.same_here);
           ends = inr none;
           with_page = with_page;
-          written = λ rest left. (
+          written = λ rest remaining. (
             so_far.over ++ rest,
-            so_far.passes.followed rest left,
+            so_far.passes.followed rest remaining,
             record {
               over = so_far.over;
               split = refl;
@@ -371,21 +384,22 @@ module _ {first now : RowsFromView} {page row stride due count used stretches : 
         }
   ]
 
-module _ (left : RowsFromView) (place : FaxPlace) (cursor : Cursor) (runs : List ℕ)
-    (row_is : cursor.row ≡ row_due left) (more : cursor.row ≢ left.here.form.rows) (ends : EndsOrGoesOn left) where
-  abbrev goes_on : left.reader.before ≡ None
+module _ (remaining : RowsFromView) (place : FaxPlace) (cursor : Cursor) (runs : List ℕ)
+    (row_is : cursor.row ≡ upcoming_row remaining) (more : cursor.row ≢ remaining.here.form.rows) (ends : EndsOrGoesOn
+    remaining) where
+  abbrev goes_on : remaining.reader.before ≡ None
   goes_on = elim ends.1 [ inl all ↦ absurd (omega (arith, all, row_is, more)) | inr none ↦ none ]
 
-  abbrev due : row_due left < left.here.form.rows
-  due = omega (arith, ends.0, row_is, more)
+  abbrev upcoming : upcoming_row remaining < remaining.here.form.rows
+  upcoming = omega (arith, ends.0, row_is, more)
 
-  -- the place of the row that is due, which its strip begins with
-  pub told_at : place ≡ place_at cursor → IsPlaceNow left None → IsToldAfter left cursor place runs runs
+  -- the place of the next row, which its strip begins with
+  pub told_at : place ≡ place_at cursor → IsPlaceNow remaining None → IsToldAfter remaining cursor place runs runs
   told_at place_is placed =
-      let row_there : place.row ≡ row_due left = ap (λ (p : FaxPlace). p.row) place_is ∙ row_is in
-      let (s, i, there, fits, width, first, rows_are) = placed goes_on due in
-      let at : Inner = record { bits = 0; reference = white_row left.here.form.width } in
-      let is_on : IsPlaceOn left.file left.here place runs s i at = record {
+      let row_there : place.row ≡ upcoming_row remaining = ap (λ (p : FaxPlace). p.row) place_is ∙ row_is in
+      let (s, i, there, fits, width, first, rows_are) = placed goes_on upcoming in
+      let at : StripPosition = record { bits = 0; reference = white_row remaining.here.form.width } in
+      let is_on : IsPlaceOn remaining.file remaining.here place runs s i at = record {
         row = rw row_there there;
         within = fits;
         width = width;
@@ -394,16 +408,17 @@ module _ (left : RowsFromView) (place : FaxPlace) (cursor : Cursor) (runs : List
       (ap cursor_of place_is, refl, inr (s, i, at, is_on, rows_are))
 
   -- or it stands inside its strip
-  pub told_inside : (old_runs : List ℕ) (lent : PlaceInStrip) → cursor_of place ≡ cursor → place.bits ≡ lent.bits
-      → IsPlaceNow left (Some lent) → IsPutAt (runs_of lent.reference.now) old_runs 0 (Some place.runs) runs
-      → IsToldAfter left cursor place old_runs runs
+  pub told_inside : (old_runs : List ℕ) (lent : StripPositionRef) → cursor_of place ≡ cursor → place.bits ≡ lent.bits
+      → IsPlaceNow remaining (Some lent) → IsPutAt (runs_of lent.reference.now) old_runs 0 (Some place.runs) runs
+      → IsToldAfter remaining cursor place old_runs runs
   told_inside old_runs lent cursor_is bits_are placed put =
-      let row_there : place.row ≡ row_due left = ap (λ (c : Cursor). c.row) cursor_is ∙ row_is in
-      let (s, i, there, fits, width, first, rows_are) = placed goes_on due in
-      let told = due_told left.here.form.width lent.reference.now (row_due left) lent.bits place.runs cursor.page
+      let row_there : place.row ≡ upcoming_row remaining = ap (λ (c : Cursor). c.row) cursor_is ∙ row_is in
+      let (s, i, there, fits, width, first, rows_are) = placed goes_on upcoming in
+      let told = due_told remaining.here.form.width lent.reference.now (upcoming_row remaining) lent.bits place.runs
+      cursor.page
       old_runs runs width put in
-      let at : Inner = record { bits = lent.bits; reference = lent.reference.now } in
-      let is_on : IsPlaceOn left.file left.here place runs s i at = record {
+      let at : StripPosition = record { bits = lent.bits; reference = lent.reference.now } in
+      let is_on : IsPlaceOn remaining.file remaining.here place runs s i at = record {
         row = rw row_there there;
         within = fits;
         width = width;
@@ -411,7 +426,7 @@ module _ (left : RowsFromView) (place : FaxPlace) (cursor : Cursor) (runs : List
       } in
       (cursor_is, told.2, inr (s, i, at, is_on, rows_are))
     where
-      runs_told : ((place.runs ≡ 0) × (lent.reference.now ≡ white_row left.here.form.width))
+      runs_told : ((place.runs ≡ 0) × (lent.reference.now ≡ white_row remaining.here.form.width))
           ⊎ (HasRuns place runs × (runs_of lent.reference.now ≡ take place.runs runs))
           → runs_of lent.reference.now ≡ take place.runs runs
       runs_told (inl (none, _)) = absurd (omega (arith, none, put.0, some_run White 0 lent.reference.now))
@@ -440,11 +455,11 @@ module _ (file : List ℕ) (here : FilePage) (stride : ℕ) (place : FaxPlace) (
   none_before Memory some why = absurd why
   none_before (Ended (Fault p r cause)) some why = absurd why
   none_before NoRoom some full = written_none NoRoom full
-  none_before (Ended Proper) some why = written_none (Ended Proper) why
+  none_before (Ended EndOfPages) some why = written_none (Ended EndOfPages) why
   none_before (Ended Outside) some (room, more, out) =
       written_none (Ended Outside) (room, more, λ s i at its. nowhere s i at its out)
     where
-      nowhere : (s i : ℕ) (at : Inner) → IsPlaceOn file here place runs s i at
+      nowhere : (s i : ℕ) (at : StripPosition) → IsPlaceOn file here place runs s i at
           → (here.form.rows < place.row) ⊎ ((place.runs ≡ 0) × (place.row % m ≢ 0)) → ⊥
       nowhere s i at its (inl past) = omega (arith, past, its.row.row, its.row.place)
       nowhere s i at its (inr (none, inside)) = elim its.so [
@@ -453,13 +468,13 @@ module _ (file : List ℕ) (here : FilePage) (stride : ℕ) (place : FaxPlace) (
       ]
 
   -- what a place of the caller's is
-  module _ {bits : ℕ} {row_before : RowBefore} (before : IsRowBefore place runs (Some row_before))
+  module _ {bits : ℕ} {row_before : ReferenceRow} (before : IsRowBefore place runs (Some row_before))
       (none : place.runs ≡ 0 → bits ≡ 0) (some_bits : place.runs ≢ 0 → bits ≡ place.bits) where
-    pub inner_is : (s i : ℕ) (at : Inner) → IsPlaceOn file here place runs s i at
+    pub inner_is : (s i : ℕ) (at : StripPosition) → IsPlaceOn file here place runs s i at
         → IsInnerOf file here s bits row_before at
     inner_is s i at its = by_before row_before before
       where
-        by_before : (row_before : RowBefore) → IsRowBefore place runs (Some row_before)
+        by_before : (row_before : ReferenceRow) → IsRowBefore place runs (Some row_before)
             → IsInnerOf file here s bits row_before at
         by_before White_row_before is = elim its.so [
           | inl (_, _, at_none, white) ↦ record {
@@ -479,7 +494,7 @@ module _ (file : List ℕ) (here : FilePage) (stride : ℕ) (place : FaxPlace) (
               }
         ]
 
-    pub place_is : {s i : ℕ} {at : Inner} → 0 < m → (place.runs ≡ 0 → place.row % m ≡ 0)
+    pub place_is : {s i : ℕ} {at : StripPosition} → 0 < m → (place.runs ≡ 0 → place.row % m ≡ 0)
         → IsRowOfStrip here.form place.row s i → IsInnerOf file here s bits row_before at
         → IsPlaceOn file here place runs s i at
     place_is {s} {i} {at} some first there inner = record {
@@ -489,12 +504,12 @@ module _ (file : List ℕ) (here : FilePage) (stride : ℕ) (place : FaxPlace) (
       so = by_before row_before before inner.reference;
     }
       where
-        wide : (row_before : RowBefore) → IsBefore here.form.width row_before at.reference
+        wide : (row_before : ReferenceRow) → IsBefore here.form.width row_before at.reference
             → length at.reference ≡ here.form.width
         wide White_row_before white = rw (white, length-replicate)
         wide (Runs those) (width, _) = width
 
-        by_before : (row_before : RowBefore) → IsRowBefore place runs (Some row_before)
+        by_before : (row_before : ReferenceRow) → IsRowBefore place runs (Some row_before)
             → IsBefore here.form.width row_before at.reference
             → ((place.runs ≡ 0) × (i ≡ 0) × (at.bits ≡ 0) × (at.reference ≡ white_row here.form.width))
             ⊎ (HasRuns place runs × (at.bits ≡ place.bits) × (runs_of at.reference ≡ take place.runs runs))
@@ -509,29 +524,29 @@ module _ (file : List ℕ) (here : FilePage) (stride : ℕ) (place : FaxPlace) (
     -- memory was refused at the place
     pub no_memory_from : {filled : Filled} → 0 < m → HasRoomFor here.form.width stride (length old) (length old_lost)
         → place.row < here.form.rows → (place.runs ≡ 0 → place.row % m ≡ 0)
-        → IsNotBegunFrom (record { file = file; here = here }) place.row bits row_before no_memory
+        → IsNotStartedFrom (record { file = file; here = here }) place.row bits row_before no_memory
         → filled ≡ none_filled_at (cursor_of place) Memory → WritesFrom file here stride memory filled memory
-    no_memory_from some room due first fits =
+    no_memory_from some room upcoming first fits =
         written_none Memory (
           room,
-          due,
+          upcoming,
           λ s i there.
               let (at, inner) = fits s i there in (at, place_is some first there inner),
         )
 
-    -- no row of the page is due at the place
+    -- no row of the page is expected at the place
     pub nowhere_from : {filled : Filled} → HasRoomFor here.form.width stride (length old) (length old_lost)
         → place.row < here.form.rows
-        → IsNotBegunFrom (record { file = file; here = here }) place.row bits row_before no_such_place
+        → IsNotStartedFrom (record { file = file; here = here }) place.row bits row_before no_such_place
         → filled ≡ none_filled_at (cursor_of place) (Ended Outside) → WritesFrom file here stride memory filled memory
-    nowhere_from room due not =
-        let more : place.row ≢ here.form.rows = λ all. omega (arith, due, all) in
+    nowhere_from room upcoming not =
+        let more : place.row ≢ here.form.rows = λ all. omega (arith, upcoming, all) in
         written_none (Ended Outside) (room, more, λ s i at its. not s i its.row at (inner_is s i at its))
 
   module _ {first new : RowsFromView} {filled : Filled} {place' : FaxPlace} {new_runs out : List ℕ}
       {lost : List FaxLost} {rest : List PageRow} (file_is : first.file ≡ file) (here_is : first.here ≡ here)
       (written : AreRowsFilled place.page place.row stride first old old_lost filled new out lost)
-      (left : AreLeftNow new rest) (told : IsToldAfter new filled.cursor place' runs new_runs) where
+      (remaining : AreLeftNow new rest) (told : IsToldAfter new filled.cursor place' runs new_runs) where
     same_file : new.file ≡ file
     same_file = written.same_file ∙ file_is
 
@@ -540,20 +555,20 @@ module _ (file : List ℕ) (here : FilePage) (stride : ℕ) (place : FaxPlace) (
 
     after : IsToldPlace new filled.cursor place' new_runs
         → ((filled.cursor.row ≡ here.form.rows) × (place' ≡ place_at filled.cursor) × (rest ≡ []))
-        ⊎ ((s : ℕ) × (i : ℕ) × (at : Inner) × IsPlaceOn file here place' new_runs s i at
+        ⊎ ((s : ℕ) × (i : ℕ) × (at : StripPosition) × IsPlaceOn file here place' new_runs s i at
         × AreRowsFrom file here s i at rest)
     after (inl (all, is)) =
-        let row_is : filled.cursor.row ≡ row_due new = ap (λ (c : Cursor). c.row) written.row_is in
-        inl (rw same_here at all, is, written.with_page (sym row_is ∙ all) rest left)
+        let row_is : filled.cursor.row ≡ upcoming_row new = ap (λ (c : Cursor). c.row) written.row_is in
+        inl (rw same_here at all, is, written.with_page (sym row_is ∙ all) rest remaining)
     after (inr (s, i, at, there, rests)) =
-        inr (s, i, at, rw (same_file, same_here) at there, rw (same_file, same_here) at (rests rest left))
+        inr (s, i, at, rw (same_file, same_here) at there, rw (same_file, same_here) at (rests rest remaining))
 
     -- what is left from the place on is written
-    pub all_from : {s i : ℕ} {at : Inner} → HasRoomFor here.form.width stride (length old) (length old_lost)
+    pub all_from : {s i : ℕ} {at : StripPosition} → HasRoomFor here.form.width stride (length old) (length old_lost)
         → IsPlaceOn file here place runs s i at
         → ((rows : List PageRow) → AreLeftNow first rows → AreRowsFrom file here s i at rows)
         → WritesFrom file here stride memory filled
         (record { place = place'; runs = new_runs; raster = out; lost = lost })
     all_from {s} {i} {at} room its rows_are =
-        let (rows, are, now) = written.written rest left in
+        let (rows, are, now) = written.written rest remaining in
         inl (room, s, i, at, its, rows, rest, rows_are rows are, now, (told.0, told.1, after told.2))

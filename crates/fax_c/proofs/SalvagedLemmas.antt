@@ -11,17 +11,17 @@ use Rattle.fax_page.specs.declared.RowsEnd.{RowsEnd}
 use Rattle.fax_page.specs.Uncounted.{uncounted}
 use Rattle.fax_rows.specs.Coded.{packed_len}
 use Rattle.fax_files.specs.declared.Cause.{Cause}
-use Rattle.fax_walk.specs.declared.salvage.Stretch.{Stretch}
-use Rattle.fax_walk.specs.declared.salvage_rows.PagePart.TheVariants.{Found, Lost}
+use Rattle.fax_walk.specs.declared.salvage.LostRows.{LostRows}
+use Rattle.fax_walk.specs.declared.salvage_rows.SalvagedPart.TheVariants.{Found, Lost}
 use Rattle.fax_walk.specs.Salvaged.{PageRow, page_items}
-use Rattle.fax_walk.specs.laws.RowsLeft.{AreLeftOneWay}
-use Rattle.fax_walk.specs.views.RowsLeft.{of_uncounted, AreLeftOf, RowsView, IsNextPart, IsUncountedStart}
-use Rattle.fax_walk.specs.views.RowsLeft.{PassesRows}
+use Rattle.fax_walk.specs.laws.SalvagedRows.{AreLeftOneWay}
+use Rattle.fax_walk.specs.views.SalvagedRows.{of_uncounted, AreLeftOf, RowsView, IsNextPart, IsUncountedStart}
+use Rattle.fax_walk.specs.views.SalvagedRows.{PassesRows}
 use Rattle.fax_walk.specs.code.SalvagePage.{longer, rows_of, with_lost}
 use Rattle.fax_walk.proofs.SalvagePageLemmas.{lost_on}
-use Rattle.fax_c.specs.declared.filled.Filled.{Filled}
-use Rattle.fax_c.specs.declared.filled.Stop.{Stop}
-use Rattle.fax_c.specs.declared.filled.Stop.TheVariants.{NoRoom}
+use Rattle.fax_c.specs.declared.fill.Filled.{Filled}
+use Rattle.fax_c.specs.declared.fill.Stop.{Stop}
+use Rattle.fax_c.specs.declared.fill.Stop.TheVariants.{NoRoom}
 use Rattle.fax_c.specs.declared.salvaged_raster.FaxLost.{FaxLost}
 use Rattle.fax_c.specs.declared.told.FaxTold.{FaxTold}
 use Rattle.fax_c.specs.Raster.{padded_row}
@@ -65,12 +65,12 @@ lost_put closed old now new x so_far len put = elim put [
 ]
 
 -- how many stretches have not ended
-abbrev pub open_of : Option Stretch → ℕ
+abbrev pub open_of : Option LostRows → ℕ
 open_of None = 0
 open_of (Some stretch) = 1
 
 -- the stretch that ends here is written after those that have ended
-ended_put : (closed old now new : List FaxLost) (ended : Option Stretch) (count to : ℕ) → AreLostPut closed old now
+ended_put : (closed old now new : List FaxLost) (ended : Option LostRows) (count to : ℕ) → AreLostPut closed old now
     → length now ≡ length old → count ≡ length closed → IsStretchPut ended now count to new
     → AreLostPut (closed ++ stretches_of ended) old new × (to ≡ length (closed ++ stretches_of ended))
     × (to ≡ count + open_of ended)
@@ -82,16 +82,16 @@ ended_put closed old now new (Some stretch) count to so_far len count_is (to_is,
   to_is,
 )
 
-module _ (left : RowsView) (all : List PageRow) (page stride : ℕ) (old : List ℕ) (old_lost : List FaxLost) where
+module _ (remaining : RowsView) (all : List PageRow) (page stride : ℕ) (old : List ℕ) (old_lost : List FaxLost) where
   -- so many rows are written
-  pub record AreLeftSoFar (now : RowsView) (row at count : ℕ) (ended : Option Stretch) (out : List ℕ)
+  pub record AreLeftSoFar (now : RowsView) (row at count : ℕ) (ended : Option LostRows) (out : List ℕ)
       (lost : List FaxLost) : Type 0 where
-    pub same_its : now.its ≡ left.its
-    pub same_rows : now.rows ≡ left.rows
-    pub same_width : now.width ≡ left.width
-    pub are : AreLeftOf left.its all
+    pub same_its : now.its ≡ remaining.its
+    pub same_rows : now.rows ≡ remaining.rows
+    pub same_width : now.width ≡ remaining.width
+    pub are : AreLeftOf remaining.its all
     pub row_is : now.row ≡ row
-    pub within : row ≤ left.rows
+    pub within : row ≤ remaining.rows
     pub at_is : at ≡ row * stride
     pub done : List PageRow
     pub done_is : done ++ drop row all ≡ all
@@ -107,7 +107,7 @@ module _ (left : RowsView) (all : List PageRow) (page stride : ℕ) (old : List 
     pub open_few : rows_of ended ≤ row
 
   -- none is written
-  pub none_yet : left.row ≡ 0 → AreLeftOf left.its all → AreLeftSoFar left 0 0 0 None old old_lost
+  pub none_yet : remaining.row ≡ 0 → AreLeftOf remaining.its all → AreLeftSoFar remaining 0 0 0 None old old_lost
   none_yet none are = record {
     same_its = refl;
     same_rows = refl;
@@ -133,13 +133,13 @@ module _ (left : RowsView) (all : List PageRow) (page stride : ℕ) (old : List 
       no_lost zero = refl
       no_lost (suc n) = refl
 
-module _ {left now : RowsView} {all : List PageRow} {page stride row at count : ℕ} {old out : List ℕ}
-    {old_lost lost : List FaxLost} {ended : Option Stretch}
-    (so_far : AreLeftSoFar left all page stride old old_lost now row at count ended out lost) where
+module _ {remaining now : RowsView} {all : List PageRow} {page stride row at count : ℕ} {old out : List ℕ}
+    {old_lost lost : List FaxLost} {ended : Option LostRows}
+    (so_far : AreLeftSoFar remaining all page stride old old_lost now row at count ended out lost) where
   -- where a row has room
-  pub room : (n : ℕ) → row + n ≤ left.rows → left.rows * stride ≤ length old → at + n * stride ≤ length old
+  pub room : (n : ℕ) → row + n ≤ remaining.rows → remaining.rows * stride ≤ length old → at + n * stride ≤ length old
   room n few fits =
-      let there : (row + n) * stride ≤ left.rows * stride = mul_le (row + n) left.rows stride few in
+      let there : (row + n) * stride ≤ remaining.rows * stride = mul_le (row + n) remaining.rows stride few in
       omega (arith, there, so_far.at_is, fits)
     where
       mul_le : (a b k : ℕ) → a ≤ b → a * k ≤ b * k
@@ -155,19 +155,19 @@ module _ {left now : RowsView} {all : List PageRow} {page stride row at count : 
         let here = rw (so_far.row_is, row_next) at (passes.rows_are all (rw so_far.same_its so_far.are)) in
         rw (append_assoc, ← here) so_far.done_is
 
-    pub within_next : row + n ≤ left.rows
+    pub within_next : row + n ≤ remaining.rows
     within_next = omega (arith, passes.within, row_next, so_far.same_rows)
 
     -- these rows are written too
     more : (same_its : new.its ≡ now.its) (same_rows : new.rows ≡ now.rows) (same_width : new.width ≡ now.width)
         (to : ℕ) (new_out : List ℕ) → length (flat_map (left_row stride) over) ≡ n * stride
         → IsPutAt (flat_map (left_row stride) over) out at (Some to) new_out
-        → (count' : ℕ) (ended' : Option Stretch) (closed : List FaxLost) (new_lost : List FaxLost)
+        → (count' : ℕ) (ended' : Option LostRows) (closed : List FaxLost) (new_lost : List FaxLost)
         → count' ≡ length closed → AreLostPut closed old_lost new_lost
         → ((rows : List PageRow) → lost_of (page_items page 0 ((so_far.done ++ over) ++ rows))
         ≡ closed ++ lost_of (with_lost ended' (page_items page (row + n) rows)))
         → count' + open_of ended' ≤ row + n → rows_of ended' ≤ row + n
-        → AreLeftSoFar left all page stride old old_lost new (row + n) to count' ended' new_out new_lost
+        → AreLeftSoFar remaining all page stride old old_lost new (row + n) to count' ended' new_out new_lost
     more same_its same_rows same_width to new_out bytes (to_is, inside, is) count' ended' closed new_lost count_is put
         stretches few open_few =
         let front = flat_map (left_row stride) so_far.done in
@@ -199,7 +199,7 @@ module _ {left now : RowsView} {all : List PageRow} {page stride row at count : 
     pub found_more : IsNextPart now (Some Found) new → packed_len (length new.last) ≤ stride → (to count' : ℕ)
         (new_out : List ℕ) (new_lost : List FaxLost) → IsPutAt (padded_row stride new.last) out at (Some to) new_out
         → IsStretchPut ended lost count count' new_lost
-        → AreLeftSoFar left all page stride old old_lost new (row + 1) to count' None new_out new_lost
+        → AreLeftSoFar remaining all page stride old old_lost new (row + 1) to count' None new_out new_lost
     found_more next short to count' new_out new_lost put ends =
         let over : List PageRow = Ok new.last ∷ [] in
         let alone : flat_map (left_row stride) over ≡ padded_row stride new.last = append-nil _ in
@@ -216,7 +216,8 @@ module _ {left now : RowsView} {all : List PageRow} {page stride row at count : 
     -- rows that are lost
     pub lost_more : (n : ℕ) (cause : Cause) → IsNextPart now (Some (Lost n cause)) new → (to : ℕ) (new_out : List ℕ)
         → IsPutAt (replicate (n * stride) 0) out at (Some to) new_out
-        → AreLeftSoFar left all page stride old old_lost new (row + n) to count (Some (longer ended page row n cause))
+        → AreLeftSoFar remaining all page stride old old_lost new (row + n) to count (Some (longer ended page row n
+        cause))
         new_out lost
     lost_more n cause next to new_out put =
         let over : List PageRow = replicate n (Err cause) in
@@ -230,7 +231,7 @@ module _ {left now : RowsView} {all : List PageRow} {page stride row at count : 
     -- all rows are written
     pub all_written : IsNextPart now None new → (used : ℕ) (new_lost : List FaxLost)
         → IsStretchPut ended lost count used new_lost → (stop : Stop) → StopsAfterLost used (length old_lost) stop
-        → AreAllWritten left page stride old old_lost
+        → AreAllWritten remaining page stride old old_lost
         (record { cursor = record { page = page; row = row }; count = row; used = used; stop = stop }) out new_lost
     all_written next used new_lost ends stop why =
         let closed = ended_put so_far.closed old_lost lost new_lost ended count used so_far.put same_len
@@ -257,12 +258,12 @@ module _ {left now : RowsView} {all : List PageRow} {page stride row at count : 
 abbrev memory : List ℕ → List FaxLost → SalvageMemory
 memory raster lost = record { raster = raster; lost = lost }
 
--- rows that nobody counted are written
-module _ {form : StripForm} {b : List Bool} {stride : ℕ} {left : RowsView} {count : ℕ} {end : RowsEnd}
-    {old : List ℕ} {old_lost : List FaxLost} (start : IsUncountedStart form b left count end) where
+-- rows of a strip of unknown height are written
+module _ {form : StripForm} {b : List Bool} {stride : ℕ} {remaining : RowsView} {count : ℕ} {end : RowsEnd}
+    {old : List ℕ} {old_lost : List FaxLost} (start : IsUncountedStart form b remaining count end) where
   pub uncounted_written : {new : List ℕ} {lost : List FaxLost} {filled : Filled} {told : FaxTold} {status : ℕ}
       → AreLeftOneWay (of_uncounted (uncounted form) b) → HoldsRows (length old) form.width count stride
-      → AreAllWritten left 0 stride old old_lost filled new lost → IsLeftTold filled end told status
+      → AreAllWritten remaining 0 stride old old_lost filled new lost → IsLeftTold filled end told status
       → WritesUncounted form b stride (memory old old_lost) (memory new lost) told status
   uncounted_written {filled = filled} one holds (rows, are, _, written) told_so =
       let same : rows ≡ start.all = one.one rows (rw start.start.its_is at are)

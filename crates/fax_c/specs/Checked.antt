@@ -1,5 +1,4 @@
--- What a check tells of a file.
--- A definition without a citation is this project's profile.
+-- What a check says of a file. A definition without a citation is this project's profile.
 use Rattle.std.specs.Prelude.{◌≡◌, ℕ, ◌⊎◌, List, ◌++◌, length, map, take, drop, unwrap_or, Option}
 use Rattle.std.specs.Prelude.{Some, None}
 use Rattle.fax_files.specs.declared.Cause.{Cause}
@@ -44,7 +43,7 @@ abbrev pub report_status : Option (Place × Cause) → ℕ
 report_status None = 1
 report_status (Some fault) = 2
 
--- a file's report is told, or memory was refused, and nothing is changed
+-- a file's report is written, or memory was refused, and nothing is changed
 abbrev pub TellsReport : List ℕ → List FaxNote → List FaxNote → FaxReport → FaxReport → ℕ → Type 0
 TellsReport file old_notes notes old report status =
     ((found : Report) × IsReport file found × AreNotesPut found.notes.items old_notes notes

@@ -1,5 +1,4 @@
--- What a conversion tells.
--- A definition without a citation is this project's profile.
+-- What a conversion says. A definition without a citation is this project's profile.
 use Rattle.std.specs.Prelude.{◌≡◌, ℕ, ◌⊎◌, nat_le, if◌then◌else◌, List, length, unwrap_or}
 use Rattle.fax_walk.specs.declared.options.ConvertFault.{ConvertFault}
 use Rattle.fax_walk.specs.declared.options.ConvertFault.TheVariants as Refused
@@ -42,7 +41,7 @@ refusal_of Refused.OutputTooLarge =
     record { len = 0; image = 0; fault = fault_of_number output_too_large_number }
 refusal_of Refused.Memory = no_output
 
--- the output is written where it has room, which the status says, and its length is told
+-- the output is written where it has room, which the status says, and its length is reported
 abbrev pub IsOutputTold : List ℕ → List ℕ → List ℕ → FaxConverted → ℕ → Type 0
 IsOutputTold output old new converted status =
     (converted ≡ record { len = length output; image = 0; fault = no_fault })

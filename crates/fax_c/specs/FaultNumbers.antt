@@ -29,7 +29,7 @@ fault_number (Strip strip.OutOfRow) = 105
 fault_number (Strip strip.MissingEol) = 106
 fault_number (Strip strip.EndMarker) = 107
 
--- the number of rows that nobody counted, where they are more than a strip has
+-- the number of rows of a strip of unknown height, where they are more than a strip has
 abbrev pub too_many_rows_number : ℕ
 too_many_rows_number = 108
 

@@ -5,9 +5,9 @@ use Rattle.fax_walk.specs.declared.cursor.Cursor.{Cursor}
 use Rattle.fax_walk.specs.declared.end.End.{End}
 use Rattle.fax_files.specs.declared.PageForm.{PageForm}
 use Rattle.fax_walk.specs.Pages.{FormItem, IsFormTail}
-use Rattle.fax_c.specs.declared.filled.Filled.{Filled}
-use Rattle.fax_c.specs.declared.filled.Stop.{Stop}
-use Rattle.fax_c.specs.declared.filled.Stop.TheVariants.{Done, Ended}
+use Rattle.fax_c.specs.declared.fill.Filled.{Filled}
+use Rattle.fax_c.specs.declared.fill.Stop.{Stop}
+use Rattle.fax_c.specs.declared.fill.Stop.TheVariants.{Done, Ended}
 use Rattle.fax_c.specs.declared.forms.FaxForm.{FaxForm}
 use Rattle.fax_c.specs.declared.told.FaxTold.{FaxTold}
 use Rattle.fax_c.specs.Numbers.{bool_number, coding_number, order_number}
@@ -58,7 +58,7 @@ pub record AreFormsFilled (file : List ℕ) (from : Cursor) (old : List FaxForm)
   pub none_used : filled.used ≡ 0
   pub stops : StopsAfterForms items end (length old) filled.count filled.stop
 
--- the forms of a file from a page on are written and told
+-- the forms of a file from a page on are written and reported
 abbrev pub TellsForms : List ℕ → ℕ → List FaxForm → List FaxForm → FaxTold → ℕ → Type 0
 TellsForms file page old new told status =
     (filled : Filled) × AreFormsFilled file (record { page = page; row = 0 }) old filled new

@@ -3,7 +3,7 @@
 use Rattle.std.specs.Prelude.{ℕ, List, [], ◌∷◌, replicate, Ok, Err}
 use Rattle.fax_rows.specs.Rows.{Colour}
 use Rattle.fax_files.specs.declared.Cause.{Cause}
-use Rattle.fax_walk.specs.Salvaged.{PageRow, LeftItem, row_found, rows_lost, page_refused}
+use Rattle.fax_walk.specs.Salvaged.{PageRow, SalvagedItem, row_found, rows_lost, page_refused}
 use Rattle.fax_walk.specs.Salvaged.{page_items}
 use Rattle.fax_c.specs.declared.salvaged_raster.FaxLost.{FaxLost}
 use Rattle.fax_c.specs.FaultNumbers.{fault_number}
@@ -18,8 +18,8 @@ left_row stride (Err cause) = replicate stride 0
 abbrev pub lost_rows : ℕ → ℕ → Cause → FaxLost
 lost_rows row rows cause = record { row = row; rows = rows; fault = fault_number cause }
 
--- those of what is handed out that are lost
-abbrev pub lost_of : List LeftItem → List FaxLost
+-- those of what is returned that are lost
+abbrev pub lost_of : List SalvagedItem → List FaxLost
 lost_of [] = []
 lost_of (row_found p r row ∷ items) = lost_of items
 lost_of (rows_lost p r rows cause ∷ items) = lost_rows r rows cause ∷ lost_of items

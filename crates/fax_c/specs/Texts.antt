@@ -11,7 +11,8 @@ use Rattle.fax_walk.specs.Report.{number_and_name}
 use Rattle.fax_c.specs.FaultNumbers.{fault_number, output_too_large_number, pbm_fault_number}
 use Rattle.fax_c.specs.FaultNumbers.{too_many_rows_number, unknown_input_number}
 
--- a text is written where it has room, and nothing else is changed; how many bytes it has is told
+-- a text is written where it has room, and nothing else is changed; how many bytes it has is
+-- reported
 pub record IsTextPut (text old : List ℕ) (len : ℕ) (new : List ℕ) : Type 0 where
   pub len_is : len ≡ length text
   pub written : length text ≤ length old → new ≡ text ++ drop (length text) old
@@ -53,7 +54,7 @@ NamesNote number old len new =
 
 -- the version, and its number
 abbrev pub version : List ℕ
-version = codes "1.11.0"
+version = codes "1.12.0"
 
 abbrev pub version_number : ℕ
-version_number = 11100
+version_number = 11200

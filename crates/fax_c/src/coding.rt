@@ -40,7 +40,7 @@ pub(crate) fn code_strip(
     writer.finish()
 }
 
-/// Codes the rows of a raster as a strip, writes it where it has room, and tells how many bytes it
+/// Codes the rows of a raster as a strip, writes it where it has room, and says how many bytes it
 /// has.
 #[unsafe(no_mangle)]
 pub extern "C" fn faxpages_strip_code(

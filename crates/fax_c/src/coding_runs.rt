@@ -13,8 +13,8 @@ use fax_page::{Memory, StripForm, StripWriter};
 use fax_rows::Row;
 use std::alloc::Global;
 
-/// Takes the pels of row `i` of a table, whose runs stand apart, and answers whether there is such
-/// a row of this width.
+/// Decodes the pels of row `i` of a table, whose runs stand apart, and returns whether there is
+/// such a row of this width.
 fn take_row(row: &mut Row, rows: &[FaxRow], runs: &[u32], i: usize) -> bool
     ensures taken { result ≡ true → Spec.IsRowAt (length row.old) rows.now runs.now i row.new }
     ensures none { result ≡ false → (pels : List Colour)
@@ -59,7 +59,7 @@ fn code_rows(
 }
 
 /// Codes rows as runs, which lie where a table says, as a strip, writes it where it has room, and
-/// tells how many bytes it has.
+/// says how many bytes it has.
 #[unsafe(no_mangle)]
 pub extern "C" fn faxpages_strip_code_runs(
     alloc: Global,

@@ -2,12 +2,12 @@
 ghost use Rattle.fax_c.specs.views.PlaceTexts as Spec;
 
 use crate::caller_text::put_text;
-use crate::places::{FaxPlace, begun_at, tell_place};
+use crate::places::{FaxPlace, started_at, tell_place};
 use crate::status;
-use fax_walk::{Begun, Cursor, LongCursor, LongFault};
+use fax_walk::{Cursor, LongCursor, LongFault, WalkStart};
 use std::alloc::Global;
 
-/// Writes a text where it has room, tells how many bytes it has, and answers whether it had room.
+/// Writes a text where it has room, says how many bytes it has, and returns whether it had room.
 pub(crate) fn put_counted(text: &[u8], out: &mut [u8], len: &mut usize) -> u32
     ensures { Spec.IsTextTold text.now out.old out.new len.new result }
 {
@@ -20,7 +20,7 @@ pub(crate) fn put_counted(text: &[u8], out: &mut [u8], len: &mut usize) -> u32
 }
 
 /// Writes a place as text where it has room: as `1:P:R`, or inside a strip as `2:P:R:B:n,n,..`; and
-/// tells how many bytes it has.
+/// says how many bytes it has.
 #[unsafe(no_mangle)]
 pub extern "C" fn faxpages_place_text(
     alloc: Global,
@@ -36,9 +36,9 @@ pub extern "C" fn faxpages_place_text(
         return status::OUTSIDE;
     }
     let mut written = String::new(alloc);
-    let made = match begun_at(alloc, place, runs) {
-        Some(Begun::At(cursor)) => cursor.put_text(&mut written),
-        Some(Begun::Inside(found)) => found.put_text(&mut written),
+    let made = match started_at(alloc, place, runs) {
+        Some(WalkStart::AtCursor(cursor)) => cursor.put_text(&mut written),
+        Some(WalkStart::AtLongCursor(found)) => found.put_text(&mut written),
         None => return status::MEMORY,
     };
     match made {

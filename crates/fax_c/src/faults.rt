@@ -7,7 +7,7 @@ use fax_files::{Cause, FileFault, PbmFault, StripFault};
 use fax_page::RowsEnd;
 use fax_walk::End;
 
-/// The number of rows that nobody counted, where they are more than a strip has.
+/// The number of rows of a strip of unknown height, where they are more than a strip has.
 pub(crate) const TOO_MANY_ROWS: u32 = 108;
 
 /// The fault that a call met: all 0 where it met none.
@@ -18,9 +18,9 @@ pub struct FaxFault {
     pub number: u32,
     /// The tag of the field at fault, or 0.
     pub tag: u32,
-    /// The page of the row that was due at the fault.
+    /// The page of the next row at the fault.
     pub page: u32,
-    /// The row that was due, 0 for a fault of the header, of a directory or of a field.
+    /// The next row, 0 for a fault of the header, of a directory or of a field.
     pub row: u32,
 }
 
@@ -107,7 +107,7 @@ impl FaxFault {
         }
     }
 
-    /// A fault where this row of a page was due.
+    /// A fault at this row of a page.
     pub(crate) fn of_cause(page: u32, row: u32, cause: Cause) -> Self
         ensures { result ≡ fault_of_cause page row cause }
     {
@@ -120,7 +120,7 @@ impl FaxFault {
         }
     }
 
-    /// The fault of rows that nobody counted, where this row of a page is due after them.
+    /// The fault of rows of a strip of unknown height, at this row of a page after them.
     pub(crate) fn of_rows_end(page: u32, row: u32, end: RowsEnd) -> Self
         ensures { result ≡ end_fault page row end }
     {
@@ -142,7 +142,7 @@ impl FaxFault {
     {
         match end {
             End::Fault { page, row, cause } => FaxFault::of_cause(page, row, cause),
-            End::Proper | End::Outside => FaxFault::none(),
+            End::EndOfPages | End::Outside => FaxFault::none(),
         }
     }
 }

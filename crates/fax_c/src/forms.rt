@@ -4,7 +4,7 @@ ghost use Rattle.fax_c.specs.Forms as Spec;
 ghost use Rattle.fax_c.specs.Numbers as Numbers;
 ghost use Rattle.fax_c.specs.code.CallSteps as Code;
 
-use crate::filled::{Filled, Stop};
+use crate::fill::{Filled, Stop};
 use crate::told::FaxTold;
 use fax_files::{Coding, FillOrder, PageForm};
 use fax_walk::{Cursor, End, Pages};
@@ -91,7 +91,7 @@ pub(crate) fn next_form(pages: &mut Pages) -> Result<PageForm, End>
 {
     match pages.next_page() {
         Ok(Some((_, form))) => Ok(form),
-        Ok(None) => Err(End::Proper),
+        Ok(None) => Err(End::EndOfPages),
         Err(fault) => match Stop::of_fault(fault) {
             Stop::Ended(end) => Err(end),
             // A reader of pages takes no memory.
@@ -102,8 +102,8 @@ pub(crate) fn next_form(pages: &mut Pages) -> Result<PageForm, End>
 
 /// Writes the forms of the first pages of a reader, as many as have room.
 fn fill_forms(pages: &mut Pages, forms: &mut [FaxForm]) -> Filled
-    requires { pages.old.given ≡ 0 }
-    ensures { Spec.AreFormsFilled pages.old.file pages.old.begun forms.old result forms.new }
+    requires { pages.old.yielded ≡ 0 }
+    ensures { Spec.AreFormsFilled pages.old.file pages.old.origin forms.old result forms.new }
 {
     fax_walk::laws::form_tails_are_one();
     let mut count = 0;
@@ -144,5 +144,5 @@ pub extern "C" fn faxpages_forms(
     ensures { Spec.TellsForms file.now page forms.old forms.new told.new result }
 {
     let mut pages = Pages::resume(file, Cursor { page, row: 0 });
-    fill_forms(&mut pages, forms).tell(told)
+    fill_forms(&mut pages, forms).fill_result(told)
 }

@@ -10,13 +10,13 @@ use crate::caller_text::put_text;
 pub extern "C" fn faxpages_version() -> u32
     ensures { result ≡ Spec.version_number }
 {
-    11_100
+    11_200
 }
 
-/// Writes the version where it has room, and answers how many bytes it has.
+/// Writes the version where it has room, and returns how many bytes it has.
 #[unsafe(no_mangle)]
 pub extern "C" fn faxpages_version_text(text: &mut [u8]) -> usize
     ensures { Spec.IsTextPut Spec.version text.old result text.new }
 {
-    put_text(b"1.11.0", text)
+    put_text(b"1.12.0", text)
 }

@@ -1,20 +1,20 @@
 //! Places inside strips, in memory of the caller.
 ghost use Rattle.std.specs.Prelude.{◌≡◌, ◌≢◌, ◌<◌, ◌≤◌, false, length, true, MatchOption};
-ghost use Rattle.fax_c.specs.declared.filled.Stop.TheVariants.{NoRoom};
+ghost use Rattle.fax_c.specs.declared.fill.Stop.TheVariants.{NoRoom};
 ghost use Rattle.fax_c.specs.views.Places as Spec;
 ghost use Rattle.fax_c.specs.code.CallSteps as Code;
 
-use crate::filled::Filled;
+use crate::fill::Filled;
 use crate::format::{RowFormat, Runs};
 use crate::status;
-use fax_walk::{Begun, Cursor, LongCursor, Walk};
+use fax_walk::{Cursor, LongCursor, Walk, WalkStart};
 use std::alloc::Global;
 
 /// So many runs hold those of any row.
 pub(crate) const MOST_RUNS: usize = 65_536;
 
-/// Where to go on: a cursor; and where `runs` is not 0 a place inside a strip, after so many bits
-/// of it, whose row before it has so many runs, which stand apart.
+/// Where to continue: a cursor; and where `runs` is not 0 a place inside a strip, after so many
+/// bits of it, whose row before it has so many runs, which stand apart.
 #[repr(C)]
 #[derive(Clone, Copy)]
 pub struct FaxPlace {
@@ -58,18 +58,19 @@ impl FaxPlace {
     }
 }
 
-/// What a walk begins with that goes on at a place, or none where memory was refused for its runs.
-pub(crate) fn begun_at(alloc: Global, place: &FaxPlace, runs: &[u32]) -> Option<Begun>
+/// What a walk begins with that continues at a place, or none where memory was refused for its
+/// runs.
+pub(crate) fn started_at(alloc: Global, place: &FaxPlace, runs: &[u32]) -> Option<WalkStart>
     requires { place.now.runs ≤ length runs.now }
     ensures { MatchOption result (0 < place.now.runs)
-        (λ begun. begun ≡ Spec.place_begun place.now runs.now) }
+        (λ origin. origin ≡ Spec.place_begun place.now runs.now) }
 {
     let at = place.cursor();
     if place.runs == 0 {
-        return Some(Begun::At(at));
+        return Some(WalkStart::AtCursor(at));
     }
     match Vec::from_slice(alloc, &runs[..place.runs as usize]) {
-        Ok(runs) => Some(Begun::Inside(LongCursor {
+        Ok(runs) => Some(WalkStart::AtLongCursor(LongCursor {
             at,
             bits: place.bits,
             runs,
@@ -78,7 +79,7 @@ pub(crate) fn begun_at(alloc: Global, place: &FaxPlace, runs: &[u32]) -> Option<
     }
 }
 
-/// Tells a place inside a strip, where its runs have room, and answers how it was told.
+/// Reports a place inside a strip, where its runs have room, and returns how it was reported.
 pub(crate) fn tell_place(found: &LongCursor, place: &mut FaxPlace, runs: &mut [u32]) -> u32
     requires { 0 < length found.now.runs }
     ensures { Code.IsPlaceTold found.now place.old runs.old result place.new runs.new }
@@ -100,14 +101,14 @@ pub(crate) fn tell_place(found: &LongCursor, place: &mut FaxPlace, runs: &mut [u
     status::DONE
 }
 
-/// Tells the place inside a strip after the rows that a walk has handed out, where there is one and
+/// Reports the place inside a strip after the rows that a walk has returned, where there is one and
 /// its runs have room.
 fn tell_inside(walk: &Walk, place: &mut FaxPlace, runs: &mut [u32])
-    requires some { 0 < walk.now.given }
+    requires some { 0 < walk.now.yielded }
     requires none { place.old.runs ≡ 0 }
     ensures { Code.IsInsideTold walk.now place.old runs.old place.new runs.new }
 {
-    let Some(found) = walk.lend_place() else {
+    let Some(found) = walk.long_cursor_ref() else {
         return;
     };
     let Some(to) = Runs::put(found.reference, runs, 0) else {
@@ -121,12 +122,12 @@ fn tell_inside(walk: &Walk, place: &mut FaxPlace, runs: &mut [u32])
     };
 }
 
-/// Tells the place after so many rows, which a walk has handed out and no more: where they are
+/// Reports the place after so many rows, which a walk has returned and no more: where they are
 /// none, a place inside a strip stays.
 fn tell_after(walk: &Walk, cursor: Cursor, count: usize, place: &mut FaxPlace, runs: &mut [u32])
-    requires given { 0 < count → walk.now.given ≡ count }
-    requires begun { count ≡ 0 → Code.IsBegunAt walk.now.begun place.old runs.old }
-    ensures place { Spec.IsAfterRows walk.now.file walk.now.begun cursor count place.new runs.new }
+    requires given { 0 < count → walk.now.yielded ≡ count }
+    requires origin { count ≡ 0 → Code.StartsAt walk.now.origin place.old runs.old }
+    ensures place { Spec.IsAfterRows walk.now.file walk.now.origin cursor count place.new runs.new }
     ensures kept { Spec.KeepsRuns runs.old runs.new }
     ensures no_runs { count ≡ 0 → runs.new ≡ runs.old }
 {
@@ -138,9 +139,9 @@ fn tell_after(walk: &Walk, cursor: Cursor, count: usize, place: &mut FaxPlace, r
     }
 }
 
-/// Tells the place before the next row, where rows stand before it and it may have no room in so
+/// Reports the place before the next row, where rows stand before it and it may have no room in so
 /// many numbers: a walk that has handed it out has passed the place.
-pub(crate) fn place_before<F: RowFormat>(
+pub(crate) fn bit_offset<F: RowFormat>(
     walk: &Walk,
     cursor: Cursor,
     count: usize,
@@ -148,8 +149,8 @@ pub(crate) fn place_before<F: RowFormat>(
     place: &mut FaxPlace,
     runs: &mut [u32],
 )
-    requires { walk.now.given ≡ count }
-    ensures told { 0 < count → room < F.MOST → Spec.IsAfterRows walk.now.file walk.now.begun cursor
+    requires { walk.now.yielded ≡ count }
+    ensures told { 0 < count → room < F.MOST → Spec.IsAfterRows walk.now.file walk.now.origin cursor
         count place.new runs.new }
     ensures none { count ≡ 0 → place.new ≡ place.old }
     ensures no_runs { count ≡ 0 → runs.new ≡ runs.old }
@@ -160,14 +161,14 @@ pub(crate) fn place_before<F: RowFormat>(
     }
 }
 
-/// Tells the place after the rows that were written. Where the next one had no room, the walk has
-/// passed it, and it was told before.
+/// Reports the place after the rows that were written. Where the next one had no room, the walk has
+/// passed it, and it was reported before.
 pub(crate) fn place_after(walk: &Walk, filled: &Filled, place: &mut FaxPlace, runs: &mut [u32])
-    requires given { filled.now.stop ≢ NoRoom → walk.now.given ≡ filled.now.count }
-    requires begun { filled.now.count ≡ 0 → Code.IsBegunAt walk.now.begun place.old runs.old }
+    requires given { filled.now.stop ≢ NoRoom → walk.now.yielded ≡ filled.now.count }
+    requires origin { filled.now.count ≡ 0 → Code.StartsAt walk.now.origin place.old runs.old }
     requires told { 0 < filled.now.count → filled.now.stop ≡ NoRoom → Spec.IsAfterRows walk.now.file
-        walk.now.begun filled.now.cursor filled.now.count place.old runs.old }
-    ensures { Spec.IsAfter walk.now.file walk.now.begun filled.now runs.old place.new runs.new }
+        walk.now.origin filled.now.cursor filled.now.count place.old runs.old }
+    ensures { Spec.IsAfter walk.now.file walk.now.origin filled.now runs.old place.new runs.new }
 {
     if filled.count == 0 || !filled.stop.is_no_room() {
         tell_after(walk, filled.cursor, filled.count, place, runs);

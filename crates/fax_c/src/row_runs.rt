@@ -1,6 +1,6 @@
 //! The runs of rows, and their changing elements.
 ghost use Rattle.fax_rows.specs.Rows.{runs_of};
-ghost use Rattle.fax_walk.specs.declared.begun.Begun.TheVariants.{At};
+ghost use Rattle.fax_walk.specs.declared.walk_start.WalkStart.TheVariants.{AtCursor};
 ghost use Rattle.fax_c.specs.Changes.{changes_of};
 ghost use Rattle.fax_c.specs.views.Filled as Spec;
 ghost use Rattle.fax_c.specs.views.Places as PlaceSpec;
@@ -23,7 +23,7 @@ pub extern "C" fn faxpages_runs(
     out: &mut [u32],
     told: &mut FaxTold,
 ) -> u32
-    ensures { Spec.TellsRows runs_of file.now (At (record { page = page; row = row })) rows.old
+    ensures { Spec.TellsRows runs_of file.now (AtCursor (record { page = page; row = row })) rows.old
         out.old rows.new out.new told.new result }
 {
     fill_at::<Runs>(alloc, file, Cursor { page, row }, rows, out, told)
@@ -59,7 +59,7 @@ pub extern "C" fn faxpages_changes(
     out: &mut [u32],
     told: &mut FaxTold,
 ) -> u32
-    ensures { Spec.TellsRows changes_of file.now (At (record { page = page; row = row })) rows.old
+    ensures { Spec.TellsRows changes_of file.now (AtCursor (record { page = page; row = row })) rows.old
         out.old rows.new out.new told.new result }
 {
     fill_at::<Changes>(alloc, file, Cursor { page, row }, rows, out, told)

@@ -1,18 +1,18 @@
 //! The rows of a file, written one after another.
 ghost use Rattle.std.specs.Prelude.{◌≡◌, ◌+◌, ◌<◌, ◌≤◌, length, Err, IfSome, None};
-ghost use Rattle.fax_c.specs.declared.filled.Stop.TheVariants.{NoRoom};
+ghost use Rattle.fax_c.specs.declared.fill.Stop.TheVariants.{NoRoom};
 ghost use Rattle.fax_rows.specs.Coded.{packed_row};
-ghost use Rattle.fax_walk.specs.declared.begun.Begun.TheVariants.{At};
+ghost use Rattle.fax_walk.specs.declared.walk_start.WalkStart.TheVariants.{AtCursor};
 ghost use Rattle.fax_walk.specs.Pages.{read_page};
 ghost use Rattle.fax_walk.specs.views.Walk.{HasPage};
 ghost use Rattle.fax_c.specs.code.CallSteps as Code;
 ghost use Rattle.fax_c.specs.views.Filled as Spec;
 ghost use Rattle.fax_c.specs.views.Places as PlaceSpec;
 
-use crate::filled::{Filled, Stop};
+use crate::fill::{Filled, Stop};
 use crate::format::{Packed, RowFormat};
 use crate::forms::next_form;
-use crate::places::{FaxPlace, begun_at, place_after, place_before};
+use crate::places::{FaxPlace, bit_offset, place_after, started_at};
 use crate::told::FaxTold;
 use fax_walk::{Cursor, End, Pages, Walk};
 use std::alloc::Global;
@@ -32,7 +32,7 @@ pub struct FaxRow {
     pub width: u32,
 }
 
-/// Writes the next row of a walk at a place, and answers where it lies.
+/// Writes the next row of a walk at a place, and returns where it lies.
 fn put_next<F: RowFormat>(walk: &mut Walk, out: &mut [F::Number], at: usize) -> Result<FaxRow, Stop>
     requires { at ≤ length out.old }
     ensures put { Code.IsPut F.numbers walk.old out.old at result walk.new out.new }
@@ -49,7 +49,7 @@ fn put_next<F: RowFormat>(walk: &mut Walk, out: &mut [F::Number], at: usize) -> 
             }),
             None => Err(Stop::NoRoom),
         },
-        Ok(None) => Err(Stop::Ended(End::Proper)),
+        Ok(None) => Err(Stop::Ended(End::EndOfPages)),
         Err(fault) => Err(Stop::of_fault(fault)),
     }
 }
@@ -63,23 +63,23 @@ fn fill<F: RowFormat>(
     rows: &mut [FaxRow],
     out: &mut [F::Number],
 ) -> Filled
-    requires none { walk.old.given ≡ 0 }
-    requires begun { Code.IsBegunAt walk.old.begun place.old runs.old }
-    ensures filled { Spec.AreRowsFilled F.numbers walk.old.file walk.old.begun rows.old out.old
+    requires none { walk.old.yielded ≡ 0 }
+    requires origin { Code.StartsAt walk.old.origin place.old runs.old }
+    ensures filled { Spec.AreRowsFilled F.numbers walk.old.file walk.old.origin rows.old out.old
         result rows.new out.new }
-    ensures place { PlaceSpec.IsAfter walk.old.file walk.old.begun result runs.old place.new
+    ensures place { PlaceSpec.IsAfter walk.old.file walk.old.origin result runs.old place.new
         runs.new }
 {
-    // Where less room is left than the largest row takes, the place is told before a row is read: a
-    // walk that has read the row has passed the place, and cannot step back. So the runs after
-    // those of the place may change, of the first 65,536: to keep the others would cost a copy of
-    // all.
+    // Where less room is left than the largest row takes, the place is reported before a row is
+    // read: a walk that has read the row has passed the place, and cannot step back. So the runs
+    // after those of the place may change, of the first 65,536: to keep the others would cost a
+    // copy of all.
     fax_walk::laws::beginnings_have_one_tail();
     let mut count = 0;
     let mut used = 0;
     while count < rows.len() {
         let cursor = walk.cursor();
-        place_before::<F>(walk, cursor, count, out.len() - used, place, runs);
+        bit_offset::<F>(walk, cursor, count, out.len() - used, place, runs);
         match put_next::<F>(walk, out, used) {
             Ok(row) => {
                 rows[count] = row;
@@ -117,12 +117,12 @@ pub(crate) fn fill_at<F: RowFormat>(
     out: &mut [F::Number],
     told: &mut FaxTold,
 ) -> u32
-    ensures { Spec.TellsRows F.numbers file.now (At cursor) rows.old out.old rows.new out.new
+    ensures { Spec.TellsRows F.numbers file.now (AtCursor cursor) rows.old out.old rows.new out.new
         told.new result }
 {
     let mut place = FaxPlace::at(cursor);
     let mut walk = Walk::resume(alloc, file, cursor);
-    fill::<F>(&mut walk, &mut place, &mut [], rows, out).tell(told)
+    fill::<F>(&mut walk, &mut place, &mut [], rows, out).fill_result(told)
 }
 
 /// How the rows end at a row of a page that the file has not, where they end so at its first row.
@@ -130,7 +130,7 @@ fn end_at_row(end: End, row: u32) -> End
     ensures { result ≡ Code.end_at_row end row }
 {
     match end {
-        End::Proper if row > 0 => End::Outside,
+        End::EndOfPages if row > 0 => End::Outside,
         _ => end,
     }
 }
@@ -168,7 +168,7 @@ fn stop_at_refusal(file: &[u8], at: Cursor, asked: usize) -> Stop
 }
 
 /// Writes the rows of a file from a place on, which is then the one after them. A place that lacks
-/// runs is told as one outside the file.
+/// runs is reported as one outside the file.
 pub(crate) fn fill_from<F: RowFormat>(
     alloc: Global,
     file: &[u8],
@@ -187,14 +187,14 @@ pub(crate) fn fill_from<F: RowFormat>(
     fax_walk::laws::beginnings_have_one_tail();
     let cursor = place.cursor();
     if place.lacks_runs(runs) {
-        return Filled::nothing(cursor, Stop::Ended(End::Outside)).tell(told);
+        return Filled::nothing(cursor, Stop::Ended(End::Outside)).fill_result(told);
     }
-    let Some(begun) = begun_at(alloc, place, runs) else {
+    let Some(origin) = started_at(alloc, place, runs) else {
         let stop = stop_at_refusal(file, cursor, rows.len());
-        return Filled::nothing(cursor, stop).tell(told);
+        return Filled::nothing(cursor, stop).fill_result(told);
     };
-    let mut walk = Walk::begin(alloc, file, begun);
-    fill::<F>(&mut walk, place, runs, rows, out).tell(told)
+    let mut walk = Walk::begin(alloc, file, origin);
+    fill::<F>(&mut walk, place, runs, rows, out).fill_result(told)
 }
 
 /// Writes rows of a file from a cursor on as packed bytes, one after another, at most as many as
@@ -209,7 +209,7 @@ pub extern "C" fn faxpages_rows(
     out: &mut [u8],
     told: &mut FaxTold,
 ) -> u32
-    ensures { Spec.TellsRows packed_row file.now (At (record { page = page; row = row })) rows.old
+    ensures { Spec.TellsRows packed_row file.now (AtCursor (record { page = page; row = row })) rows.old
         out.old rows.new out.new told.new result }
 {
     fill_at::<Packed>(alloc, file, Cursor { page, row }, rows, out, told)

@@ -5,7 +5,7 @@ ghost use Rattle.fax_walk.specs.views.RowsFrom as Walk;
 ghost use Rattle.fax_c.specs.code.SalvagedFrom as Code;
 ghost use Rattle.fax_c.specs.views.SalvagedFrom as Spec;
 
-use crate::filled::{Filled, Stop};
+use crate::fill::{Filled, Stop};
 use crate::format::put_all_runs;
 use crate::places::{FaxPlace, MOST_RUNS};
 use crate::raster::{packed_len, put_in_stride};
@@ -15,46 +15,46 @@ use crate::strip_rows::{MOST_BYTES, row_before};
 use crate::told::FaxTold;
 use fax_files::PageForm;
 use fax_page::PlaceFault;
-use fax_walk::{Cursor, End, PageLeft, PagePart, RowsFrom, Stretch};
+use fax_walk::{Cursor, DamagedPage, End, LostRows, RowsFrom, SalvagedPart};
 use std::alloc::Global;
 
 /// Rows that are passed up to the next one that is found, or all that are left of the page.
 #[derive(Clone, Copy)]
-struct Ahead {
+struct SkippedRows {
     /// The row after them.
     row: u32,
     /// Those of them that are lost.
-    lost: Option<Stretch>,
+    lost: Option<LostRows>,
     /// Whether the last of them is found.
     found: bool,
 }
 
 /// Passes the rows that are lost, and the next one that is found, if one is.
-fn next_found(left: &mut RowsFrom, page: u32, row: u32) -> Ahead
-    requires due { Walk.row_due left.old ≡ row }
-    requires within { row ≤ left.old.here.form.rows }
-    requires few { left.old.here.form.rows ≤ 1000000 }
-    ensures { Code.IsAhead left.old page row result left.new }
+fn next_found(remaining: &mut RowsFrom, page: u32, row: u32) -> SkippedRows
+    requires upcoming { Walk.upcoming_row remaining.old ≡ row }
+    requires within { row ≤ remaining.old.here.form.rows }
+    requires few { remaining.old.here.form.rows ≤ 1000000 }
+    ensures { Code.IsAhead remaining.old page row result remaining.new }
 {
-    let mut due = row;
+    let mut upcoming = row;
     let mut lost = None;
-    while let Some(part) = left.next_part() {
+    while let Some(part) = remaining.next_part() {
         match part {
-            PagePart::Found => {
-                return Ahead {
-                    row: due + 1,
+            SalvagedPart::Found => {
+                return SkippedRows {
+                    row: upcoming + 1,
                     lost,
                     found: true,
                 };
             }
-            PagePart::Lost { rows, cause } => {
-                lost = Some(longer(lost, page, due, rows, cause));
-                due += rows;
+            SalvagedPart::Lost { rows, cause } => {
+                lost = Some(longer(lost, page, upcoming, rows, cause));
+                upcoming += rows;
             }
         }
     }
-    Ahead {
-        row: due,
+    SkippedRows {
+        row: upcoming,
         lost,
         found: false,
     }
@@ -73,19 +73,19 @@ fn is_full(len: usize, used: usize, stride: usize, stretches: usize, room: usize
 /// Writes the rows that are found, one after another, and the stretches of those that are lost, as
 /// long as one more of each has room.
 fn fill_left_from(
-    left: &mut RowsFrom,
+    remaining: &mut RowsFrom,
     page: u32,
     row: u32,
     stride: usize,
     out: &mut [u8],
     lost: &mut [FaxLost],
 ) -> Filled
-    requires due { Walk.row_due left.old ≡ row }
-    requires within { row ≤ left.old.here.form.rows }
-    requires few { left.old.here.form.rows ≤ 1000000 }
-    requires short { Coded.packed_len left.old.here.form.width ≤ stride }
+    requires upcoming { Walk.upcoming_row remaining.old ≡ row }
+    requires within { row ≤ remaining.old.here.form.rows }
+    requires few { remaining.old.here.form.rows ≤ 1000000 }
+    requires short { Coded.packed_len remaining.old.here.form.width ≤ stride }
     requires room { Spec.HasRoomForBoth (length out.old) 0 stride 0 (length lost.old) }
-    ensures { Code.AreRowsFilled page row stride left.old out.old lost.old result left.new out.new
+    ensures { Code.AreRowsFilled page row stride remaining.old out.old lost.old result remaining.new out.new
         lost.new }
 {
     let mut row = row;
@@ -93,7 +93,7 @@ fn fill_left_from(
     let mut used = 0;
     let mut stretches = 0;
     while !is_full(out.len(), used, stride, stretches, lost.len()) {
-        let ahead = next_found(left, page, row);
+        let ahead = next_found(remaining, page, row);
         stretches = put_stretch(ahead.lost, lost, stretches);
         row = ahead.row;
         if !ahead.found {
@@ -101,10 +101,10 @@ fn fill_left_from(
                 cursor: Cursor { page, row },
                 count,
                 used: stretches,
-                stop: Stop::Ended(End::Proper),
+                stop: Stop::Ended(End::EndOfPages),
             };
         }
-        used = put_in_stride(left.row(), stride, out, used);
+        used = put_in_stride(remaining.row(), stride, out, used);
         count += 1;
     }
     Filled {
@@ -130,7 +130,7 @@ fn stop_before_left(
     if stride < packed_len(form.width) || is_full(len, 0, stride, 0, room) {
         Some(Stop::NoRoom)
     } else if place.row == form.rows {
-        Some(Stop::Ended(End::Proper))
+        Some(Stop::Ended(End::EndOfPages))
     } else if place.row > form.rows || (place.runs == 0 && place.row % form.rows_per_strip != 0) {
         Some(Stop::Ended(End::Outside))
     } else {
@@ -138,26 +138,26 @@ fn stop_before_left(
     }
 }
 
-/// Tells the place after the rows that were written of a page with so many.
+/// Reports the place after the rows that were written of a page with so many.
 fn tell_left_after(
-    left: &RowsFrom,
+    remaining: &RowsFrom,
     rows: u32,
     cursor: Cursor,
     place: &mut FaxPlace,
     runs: &mut [u32],
 )
-    requires file { length left.now.file ≤ 536870911 }
+    requires file { length remaining.now.file ≤ 536870911 }
     requires room { 65536 ≤ length runs.old }
-    requires rows { rows ≡ left.now.here.form.rows }
-    requires cursor { cursor.row ≡ Walk.row_due left.now }
-    requires ends { Code.EndsOrGoesOn left.now }
-    ensures { Code.IsToldAfter left.now cursor place.new runs.old runs.new }
+    requires rows { rows ≡ remaining.now.here.form.rows }
+    requires cursor { cursor.row ≡ Walk.upcoming_row remaining.now }
+    requires ends { Code.EndsOrGoesOn remaining.now }
+    ensures { Code.IsToldAfter remaining.now cursor place.new runs.old runs.new }
 {
     *place = FaxPlace::at(cursor);
     if cursor.row == rows {
         return;
     }
-    let Some(lent) = left.place() else {
+    let Some(lent) = remaining.place() else {
         return;
     };
     place.bits = lent.bits;
@@ -175,7 +175,7 @@ fn bits_before(place: &FaxPlace) -> u32
 /// Writes what is left of a page from a place on, which is then the one after it.
 fn salvage_page(
     alloc: Global,
-    found: PageLeft,
+    found: DamagedPage,
     place: &mut FaxPlace,
     runs: &mut [u32],
     stride: usize,
@@ -198,10 +198,10 @@ fn salvage_page(
     };
     let bits = bits_before(place);
     match found.rows_from(alloc, place.row, bits, before) {
-        Ok(mut left) => {
-            let filled = fill_left_from(&mut left, place.page, place.row, stride, out, lost);
-            left.rows_are_left();
-            tell_left_after(&left, form.rows, filled.cursor, place, runs);
+        Ok(mut remaining) => {
+            let filled = fill_left_from(&mut remaining, place.page, place.row, stride, out, lost);
+            remaining.lemma_rows_left();
+            tell_left_after(&remaining, form.rows, filled.cursor, place, runs);
             filled
         }
         Err(PlaceFault::Memory) => Filled::nothing(cursor, Stop::Memory),
@@ -231,8 +231,8 @@ pub extern "C" fn faxpages_salvage_from(
     if file.len() > MOST_BYTES || runs.len() < MOST_RUNS {
         return status::NO_OPTIONS;
     }
-    match PageLeft::at(file, place.page) {
-        Ok(found) => salvage_page(alloc, found, place, runs, stride, out, lost).tell(told),
-        Err(end) => Filled::nothing(place.cursor(), Stop::Ended(end)).tell(told),
+    match DamagedPage::at(file, place.page) {
+        Ok(found) => salvage_page(alloc, found, place, runs, stride, out, lost).fill_result(told),
+        Err(end) => Filled::nothing(place.cursor(), Stop::Ended(end)).fill_result(told),
     }
 }

@@ -13,7 +13,7 @@ use fax_page::{Coding, StripForm};
 pub struct FaxStrip {
     /// The pels of a row, 1 to 65,535.
     pub width: u32,
-    /// The rows, 1 to 1,000,000, or 0 where nobody counted those that are read.
+    /// The rows, 1 to 1,000,000, or 0 where the height is unknown those that are read.
     pub rows: u32,
     /// How the rows are coded: 1 in MH, 2 in MR, 3 in MMR.
     pub coding: u32,

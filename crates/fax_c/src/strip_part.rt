@@ -6,7 +6,7 @@ ghost use Rattle.fax_c.specs.code.StripParts as Code;
 ghost use Rattle.fax_c.specs.views.StripParts as Spec;
 
 use crate::faults::FaxFault;
-use crate::filled::{Filled, Stop};
+use crate::fill::{Filled, Stop};
 use crate::places::{FaxPlace, MOST_RUNS};
 use crate::status;
 use crate::strip_form::FaxStrip;
@@ -21,7 +21,7 @@ use std::alloc::Global;
 /// No strip that is read has more bits.
 const MOST_BITS: u64 = 8 * MOST_BYTES as u64;
 
-/// Whether a row is due at a place that is after these bytes, and that a strip may reach.
+/// Whether a row is expected at a place that is after these bytes, and that a strip may reach.
 fn is_ahead(strip: &[u8], form: StripForm, place: &FaxPlace) -> bool
     requires count { length strip.now ≤ 536870911 }
     ensures ahead { IsTrue result → Code.IsAhead form strip.now place.now }
@@ -49,8 +49,8 @@ fn may_change(strip: &[u8], form: StripForm, place: &FaxPlace, stop: Stop) -> bo
     }
 }
 
-/// Whether rows that nobody counted and that end so at a place may end otherwise where more bytes
-/// follow: with an end mark, where one may stand there.
+/// Whether rows of a strip of unknown height and that end so at a place may end otherwise where
+/// more bytes follow: with an end mark, where one may stand there.
 fn end_may_change(strip: &[u8], form: StripForm, place: &FaxPlace, end: RowsEnd) -> bool
     requires count { length strip.now ≤ 536870911 }
     ensures changes { IsTrue result → Spec.MayChange form.coding
@@ -74,7 +74,7 @@ fn end_may_change(strip: &[u8], form: StripForm, place: &FaxPlace, end: RowsEnd)
     }
 }
 
-/// Whether what is told of a strip up to a place may be something else where more bytes follow.
+/// Whether what is reported of a strip up to a place may be something else where more bytes follow.
 fn may_go_on(
     strip: &[u8],
     form: StripForm,
@@ -95,7 +95,7 @@ fn may_go_on(
     }
 }
 
-/// Tells what was written, and that more bytes are waited for.
+/// Reports what was written, and that more bytes are waited for.
 fn tell_more(filled: &Filled, told: &mut FaxTold) -> u32
     ensures { Code.IsMoreTold filled.now told.new result }
 {
@@ -110,7 +110,7 @@ fn tell_more(filled: &Filled, told: &mut FaxTold) -> u32
 }
 
 /// Reads rows of a strip of which the first bytes are there into a raster, as `faxpages_strip_rows`
-/// does, where what is told holds whatever bytes follow.
+/// does, where what is reported holds whatever bytes follow.
 #[unsafe(no_mangle)]
 pub extern "C" fn faxpages_strip_part(
     alloc: Global,
@@ -129,7 +129,7 @@ pub extern "C" fn faxpages_strip_part(
 {
     fax_page::laws::rows_stay_whatever_follows();
     fax_page::laws::ends_stay_whatever_follows();
-    fax_bits::laws::bits_stand_by_place();
+    fax_bits::laws::bits_stand_by_index();
     if runs.len() < MOST_RUNS {
         return status::NO_OPTIONS;
     }

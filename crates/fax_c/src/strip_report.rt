@@ -60,7 +60,7 @@ impl FaxStripReport {
         }
     }
 
-    /// What was found in rows that nobody counted.
+    /// What was found in rows of a strip of unknown height.
     fn found(found: &UncountedNotes) -> Self
         ensures { result ≡ report_of_end found.now.rows found.now.end found.now.notes }
     {
@@ -74,7 +74,7 @@ impl FaxStripReport {
     }
 }
 
-/// What `faxpages_strip_check` does where nobody counted the rows.
+/// What `faxpages_strip_check` does where the height is unknown.
 fn check_uncounted(alloc: Global, strip: &[u8], form: &FaxStrip, report: &mut FaxStripReport) -> u32
     ensures { Spec.TellsUncountedReport strip.now form.now report.old report.new result }
 {
@@ -93,7 +93,7 @@ fn check_uncounted(alloc: Global, strip: &[u8], form: &FaxStrip, report: &mut Fa
     }
 }
 
-/// Reads all rows of a strip, and tells what stands after them.
+/// Reads all rows of a strip, and says what stands after them.
 #[unsafe(no_mangle)]
 pub extern "C" fn faxpages_strip_check(
     alloc: Global,

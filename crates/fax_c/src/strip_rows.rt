@@ -6,7 +6,7 @@ ghost use Rattle.fax_rows.specs.Coded as Coded;
 ghost use Rattle.fax_c.specs.code.BareStrips as Code;
 ghost use Rattle.fax_c.specs.views.BareStrips as Spec;
 
-use crate::filled::{Filled, Stop};
+use crate::fill::{Filled, Stop};
 use crate::format::put_all_runs;
 use crate::places::{FaxPlace, MOST_RUNS};
 use crate::raster::{packed_len, put_in_stride};
@@ -15,7 +15,7 @@ use crate::strip_form::FaxStrip;
 use crate::told::FaxTold;
 use crate::uncounted_strip::{end_at, form_of_rows, tell_read};
 use fax_files::Cause;
-use fax_page::{PlaceFault, RowBefore, StripFault, StripForm, StripReader};
+use fax_page::{PlaceFault, ReferenceRow, StripFault, StripForm, StripReader};
 use fax_walk::{Cursor, End};
 use std::alloc::Global;
 
@@ -34,19 +34,19 @@ pub(crate) fn readable_form(strip: &[u8], given: &FaxStrip) -> Option<StripForm>
 }
 
 /// The row before a place: white where it has no runs. `None` where they are not in their room.
-pub(crate) fn row_before<'a>(place: &FaxPlace, runs: &'a [u32]) -> Option<RowBefore<'a>>
+pub(crate) fn row_before<'a>(place: &FaxPlace, runs: &'a [u32]) -> Option<ReferenceRow<'a>>
     ensures { Code.IsRowBefore place.now runs.now result }
 {
     if place.runs == 0 {
-        Some(RowBefore::White)
+        Some(ReferenceRow::White)
     } else if place.lacks_runs(runs) {
         None
     } else {
-        Some(RowBefore::Runs(&runs[..place.runs as usize]))
+        Some(ReferenceRow::Runs(&runs[..place.runs as usize]))
     }
 }
 
-/// A reader of a strip before the row that is due at a place, or why there is none.
+/// A reader of a strip before the next row at a place, or why there is none.
 fn reader_at<'a>(
     alloc: Global,
     strip: &'a [u8],
@@ -56,7 +56,7 @@ fn reader_at<'a>(
 ) -> Result<StripReader<'a>, Stop>
     requires count { length strip.now ≤ 536870911 }
     requires limits { IsStripForm form }
-    requires due { place.now.row < form.rows }
+    requires upcoming { place.now.row < form.rows }
     ensures { Code.IsReaderAt form strip.now place.now runs.now result }
 {
     let Some(before) = row_before(place, runs) else {
@@ -74,7 +74,7 @@ fn stop_of(page: u32, row: u32, fault: Option<StripFault>) -> Stop
     ensures { result ≡ Spec.stop_in_strip page row fault }
 {
     match fault {
-        None => Stop::Ended(End::Proper),
+        None => Stop::Ended(End::EndOfPages),
         Some(fault) => Stop::Ended(End::Fault {
             page,
             row,
@@ -95,14 +95,14 @@ fn read_next(reader: &mut StripReader, page: u32) -> Option<Stop>
     }
 }
 
-/// Reads the rows of a strip into a raster from the row that is due on, as many as have room.
+/// Reads the rows of a strip into a raster from the next row on, as many as have room.
 fn fill_strip(reader: &mut StripReader, page: u32, stride: usize, out: &mut [u8]) -> Filled
     requires no_fault { reader.old.fault ≡ None }
     requires stride { Coded.packed_len reader.old.form.width ≤ stride }
     requires some { 0 < stride }
     ensures { Code.AreStripRowsFilled page stride reader.old out.old result reader.new out.new }
 {
-    fax_bits::laws::bits_stand_by_place();
+    fax_bits::laws::bits_stand_by_index();
     let mut count = 0;
     let mut used = 0;
     while out.len() - used >= stride {
@@ -127,11 +127,11 @@ fn fill_strip(reader: &mut StripReader, page: u32, stride: usize, out: &mut [u8]
     }
 }
 
-/// Tells the place of the row that is due, after so many rows: where they are none, it stays.
-fn tell_due(reader: &StripReader, count: usize, place: &mut FaxPlace, runs: &mut [u32])
+/// Reports the place of the next row, after so many rows: where they are none, it stays.
+fn tell_upcoming(reader: &StripReader, count: usize, place: &mut FaxPlace, runs: &mut [u32])
     requires room { 65536 ≤ length runs.old }
     requires few { length reader.now.bytes ≤ 536870911 }
-    ensures { Code.IsDueTold reader.now count place.old runs.old place.new runs.new }
+    ensures { Code.IsUpcomingTold reader.now count place.old runs.old place.new runs.new }
 {
     if count == 0 {
         return;
@@ -152,7 +152,7 @@ fn stop_before(form: StripForm, place: &FaxPlace, stride: usize, room: usize) ->
     if stride < packed_len(form.width) || room < stride {
         Some(Stop::NoRoom)
     } else if place.row == form.rows {
-        Some(Stop::Ended(End::Proper))
+        Some(Stop::Ended(End::EndOfPages))
     } else if place.row > form.rows {
         Some(Stop::Ended(End::Outside))
     } else {
@@ -183,7 +183,7 @@ pub(crate) fn read_strip(
     match reader_at(alloc, strip, form, place, runs) {
         Ok(mut reader) => {
             let filled = fill_strip(&mut reader, place.page, stride, out);
-            tell_due(&reader, filled.count, place, runs);
+            tell_upcoming(&reader, filled.count, place, runs);
             filled
         }
         Err(stop) => Filled::nothing(place.cursor(), stop),

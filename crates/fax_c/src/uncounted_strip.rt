@@ -1,4 +1,4 @@
-//! Rows of a strip that nobody counted.
+//! Rows of a strip of unknown height.
 ghost use Rattle.std.specs.Prelude.{◌≡◌, ◌≤◌, drop, length, IfSome, MatchOption};
 ghost use Rattle.fax_bits.specs.Bits.{bits};
 ghost use Rattle.fax_page.specs.declared.StripForm.{StripForm as Form};
@@ -7,19 +7,18 @@ ghost use Rattle.fax_c.specs.Told as Told;
 ghost use Rattle.fax_c.specs.views.BareStrips as Spec;
 
 use crate::faults::FaxFault;
-use crate::filled::{Filled, Stop};
+use crate::fill::{Filled, Stop};
 use crate::places::FaxPlace;
 use crate::status;
 use crate::strip_form::FaxStrip;
 use crate::strip_rows::readable_form;
 use crate::told::FaxTold;
 use fax_files::Cause;
-use fax_page::{MOST_ROWS, RowsEnd, StripFault, StripForm, end_of_rows};
+use fax_page::{MOST_ROWS, RowsEnd, StripFault, StripForm, classify_end};
 use fax_rows::BitSource;
 use fax_walk::End;
 
-/// The form in which a strip of so many bytes is read whose rows nobody counted, if these numbers
-/// are one.
+/// The form in which a strip of so many bytes is read of unknown height, if these numbers are one.
 pub(crate) fn uncounted_form(strip: &[u8], given: &FaxStrip) -> Option<StripForm>
     ensures { MatchOption result
         ((form : Form) → Spec.IsReadableUncounted strip.now given.now form → ⊥)
@@ -35,8 +34,8 @@ pub(crate) fn uncounted_form(strip: &[u8], given: &FaxStrip) -> Option<StripForm
     readable_form(strip, &most)
 }
 
-/// The form in which a strip is read, of counted rows or of such as nobody counted, if these
-/// numbers are one.
+/// The form in which a strip is read, of counted rows or those of unknown height, if these numbers
+/// are one.
 pub(crate) fn form_of_rows(strip: &[u8], given: &FaxStrip) -> Option<StripForm>
     ensures form { MatchOption result
         ((form : Form) → Spec.IsReadableIn strip.now given.now form → ⊥)
@@ -50,7 +49,7 @@ pub(crate) fn form_of_rows(strip: &[u8], given: &FaxStrip) -> Option<StripForm>
     }
 }
 
-/// The number that a call answers where rows end so that nobody counted.
+/// The number that a call returns where rows of a strip of unknown height end so.
 pub(crate) fn end_status(end: RowsEnd) -> u32
     ensures { result ≡ Told.end_status end }
 {
@@ -61,22 +60,22 @@ pub(crate) fn end_status(end: RowsEnd) -> u32
     }
 }
 
-/// Goes on by so many bits, or past all of them where there are fewer.
+/// Advances by so many bits, or past all of them where there are fewer.
 fn go_on(source: &mut BitSource, bits: u64)
-    ensures { source.new.left ≡ drop bits source.old.left }
+    ensures { source.new.remaining ≡ drop bits source.old.remaining }
 {
-    let left = source.remaining();
-    if bits < left {
+    let remaining = source.remaining();
+    if bits < remaining {
         source.skip(bits);
     } else {
-        source.skip(left);
+        source.skip(remaining);
     }
 }
 
 /// The bits of a strip from a place on.
 pub(crate) fn source_at<'a>(strip: &'a [u8], form: StripForm, place: &FaxPlace) -> BitSource<'a>
     requires count { length strip.now ≤ 536870911 }
-    ensures { result.left ≡ drop place.now.bits (bits form.order strip.now) }
+    ensures { result.remaining ≡ drop place.now.bits (bits form.order strip.now) }
 {
     let mut source = BitSource::new(strip, form.order);
     go_on(&mut source, u64::from(place.bits));
@@ -89,7 +88,7 @@ fn met_in_strip(stop: Stop) -> Option<Option<StripFault>>
     ensures { result ≡ Spec.met_in_strip stop }
 {
     match stop {
-        Stop::Ended(End::Proper) => Some(None),
+        Stop::Ended(End::EndOfPages) => Some(None),
         Stop::Ended(
             End::Fault {
                 cause: Cause::Strip(fault),
@@ -100,8 +99,8 @@ fn met_in_strip(stop: Stop) -> Option<Option<StripFault>>
     }
 }
 
-/// How rows end that nobody counted and that are read up to a place, where the strip itself stopped
-/// them.
+/// How the rows of a strip of unknown height end and that are read up to a place, where the strip
+/// itself stopped them.
 pub(crate) fn end_at(
     strip: &[u8],
     given: &FaxStrip,
@@ -119,10 +118,10 @@ pub(crate) fn end_at(
         return None;
     };
     let source = source_at(strip, form, place);
-    Some(end_of_rows(&source, form.coding, place.row, met))
+    Some(classify_end(&source, form.coding, place.row, met))
 }
 
-/// Tells what was written of rows that end so at a place, and answers how the call ended.
+/// Reports what was written of rows that end so at a place, and returns how the call ended.
 pub(crate) fn tell_end(filled: &Filled, place: &FaxPlace, end: RowsEnd, told: &mut FaxTold) -> u32
     ensures { Spec.IsRowsEndTold filled.now place.now end told.new result }
 {
@@ -136,8 +135,8 @@ pub(crate) fn tell_end(filled: &Filled, place: &FaxPlace, end: RowsEnd, told: &m
     end_status(end)
 }
 
-/// Tells what was written, and how the rows end at a place, if that is to be told, and answers how
-/// the call ended.
+/// Reports what was written, and how the rows end at a place, if that is to be reported, and
+/// returns how the call ended.
 pub(crate) fn tell_read(
     filled: &Filled,
     place: &FaxPlace,
@@ -148,6 +147,6 @@ pub(crate) fn tell_read(
 {
     match end {
         Some(end) => tell_end(filled, place, end, told),
-        None => filled.tell(told),
+        None => filled.fill_result(told),
     }
 }

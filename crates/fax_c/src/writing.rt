@@ -135,7 +135,7 @@ fn is_writing(written: &FaxWritten) -> bool
     ensures none { result ≡ false → Spec.IsWriting written.now → ⊥ }
 {
     // A link before byte 4 is NO_OPTIONS, since the page's directory would be written over the
-    // header. That the numbers are those that a call told is the caller's to see to.
+    // header. That the numbers are those that a call reported is the caller's to see to.
     if written.total > MOST_PAGES || written.added >= MOST_PAGES {
         return false;
     }
@@ -171,7 +171,7 @@ fn is_total_said(written: &FaxWritten, file: &[u8]) -> bool
     written.added == 0 || u32::from(two_at(file, written.link as usize - 2)) == written.total
 }
 
-/// Where a file that is written goes on, and where the offset of the next directory stands: after
+/// Where a file that is written continues, and where the offset of the next directory stands: after
 /// its header, or after the pages that were added.
 fn place_of(written: &FaxWritten) -> (u32, u32)
     requires { Spec.IsWriting written.now }
@@ -219,7 +219,7 @@ fn put_page(file: &mut [u8], start: usize, link: usize, page: &[u8], directory: 
     put_four(file, link, directory);
 }
 
-/// Adds a page to a file of the caller, where it has room, and answers how that ended.
+/// Adds a page to a file of the caller, where it has room, and returns how that ended.
 fn add_page(
     alloc: Global,
     form: &PageForm,
@@ -265,7 +265,7 @@ fn add_page(
     status::DONE
 }
 
-/// Adds a page of the form that these numbers are, if it can be added, and answers how that ended.
+/// Adds a page of the form that these numbers are, if it can be added, and returns how that ended.
 fn add_given(
     alloc: Global,
     form: &FaxForm,

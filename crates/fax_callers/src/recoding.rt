@@ -38,7 +38,7 @@ pub fn recode_first_row(
     requires some { 0 < width }
     requires short { width < 2 ^ 16 }
     ensures { OnOk result ((row : List Colour)
-        × (read_one_dimensional width source.old.left ≡ read row source.new.left)
+        × (read_one_dimensional width source.old.remaining ≡ read row source.new.remaining)
         × Appends sink.old (two_dimensional_bits (replicate width Colour.White) row) sink.new) }
 {
     let reference = Row::white(alloc, width)?;

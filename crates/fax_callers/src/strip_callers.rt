@@ -75,7 +75,7 @@ fn counts_rows(rt: HostRuntime) -> Result<(), Fail> {
         rows: 2,
         aligned: false,
     };
-    // V0; the end of the facsimile block, where a row is due.
+    // V0; the end of the facsimile block, where a row is expected.
     assert_eq!(rt;
         count_rows(rt.alloc(), &[0x80, 0x08, 0x00, 0x80], form)?,
         (1, Some(StripFault::EndMarker))

@@ -12,15 +12,16 @@ use Rattle.fax_files.specs.Directory.{ChainRead, Header, is_directory, next_offs
 use Rattle.fax_files.specs.Directory.{read_chain_from}
 use Rattle.fax_files.specs.laws.TiffFiles.{HasOneChain, IsChainFrom, offset_fault}
 
--- the chain goes on at an offset
-pub record GoesOn (endian : Endian) (file before : List ℕ) (due : ℕ) : Type 0 where
-  pub not_last : (due == 0) ≡ false
-  pub fresh : list_any (λ q. due == q) before ≡ false
-  pub there : is_directory endian file due ≡ true
+-- the chain continues at an offset
+pub record GoesOn (endian : Endian) (file before : List ℕ) (next_at : ℕ) : Type 0 where
+  pub not_last : (next_at == 0) ≡ false
+  pub fresh : list_any (λ q. next_at == q) before ≡ false
+  pub there : is_directory endian file next_at ≡ true
 
-pub going_on : (endian : Endian) (file before : List ℕ) (due : ℕ) → due ≢ 0 → offset_fault endian file before due ≡ None
-    → GoesOn endian file before due
-going_on endian file before due some e = grind arith
+pub going_on : (endian : Endian) (file before : List ℕ) (next_at : ℕ) → next_at ≢ 0
+    → offset_fault endian file before next_at ≡ None
+    → GoesOn endian file before next_at
+going_on endian file before next_at some e = grind arith
 
 -- a directory that is there begins inside the file
 pub begins_inside : (endian : Endian) (file : List ℕ) (q : ℕ) → is_directory endian file q ≡ true → q < length file
@@ -55,8 +56,8 @@ pub few : (xs : List ℕ) (n : ℕ) → IsApart xs → AreBelow xs n → length 
 few xs n apart all = length-le_from_distinct_below xs n (distinct xs apart) all
 
 -- an offset that is not 0 is not the last one
-pub not_last : (due : ℕ) → due ≢ 0 → (due == 0) ≡ false
-not_last due some = grind (arith, nat_tests)
+pub not_last : (next_at : ℕ) → next_at ≢ 0 → (next_at == 0) ≡ false
+not_last next_at some = grind (arith, nat_tests)
 
 module _ (endian : Endian) (file : List ℕ) where
   -- the limit is as high as there may be directories after those before, which are apart
@@ -71,49 +72,50 @@ module _ (endian : Endian) (file : List ℕ) where
   no_room : (before : List ℕ) → HasRoom 0 before → ⊥
   no_room before room = omega (arith, room.count, are_few 0 before room)
 
-  room_on : (limit : ℕ) (before : List ℕ) (due : ℕ) → HasRoom (suc limit) before → GoesOn endian file before due
-      → HasRoom limit (due ∷ before)
-  room_on limit before due room on = record {
+  room_on : (limit : ℕ) (before : List ℕ) (next_at : ℕ) → HasRoom (suc limit) before → GoesOn endian file before next_at
+      → HasRoom limit (next_at ∷ before)
+  room_on limit before next_at room on = record {
     count = omega (arith, room.count);
     apart = (on.fresh, room.apart);
-    below = still_below before (length file) due (begins_inside endian file due on.there) room.below;
+    below = still_below before (length file) next_at (begins_inside endian file next_at on.there) room.below;
   }
 
   abbrev read : ℕ → List ℕ → ℕ → ChainRead
-  read limit before due = read_chain_from limit endian file before due
+  read limit before next_at = read_chain_from limit endian file before next_at
 
   -- what is read at an offset, by its fault
   abbrev read_by : ℕ → List ℕ → ℕ → Option FileFault → ChainRead
-  read_by limit before due (Some fault) = record { offsets = []; end = Some fault }
-  read_by limit before due None =
-      let more = read limit (due ∷ before) (next_offset endian file due) in
-      record more { offsets = due ∷ more.offsets }
+  read_by limit before next_at (Some fault) = record { offsets = []; end = Some fault }
+  read_by limit before next_at None =
+      let more = read limit (next_at ∷ before) (next_offset endian file next_at) in
+      record more { offsets = next_at ∷ more.offsets }
 
-  by_fault : (limit : ℕ) (before : List ℕ) (due : ℕ) → due ≢ 0
-      → read (suc limit) before due ≡ read_by limit before due (offset_fault endian file before due)
+  by_fault : (limit : ℕ) (before : List ℕ) (next_at : ℕ) → next_at ≢ 0
+      → read (suc limit) before next_at ≡ read_by limit before next_at (offset_fault endian file before next_at)
   unfolding read_chain_from
-  by_fault limit before due some = grind (arith, not_last)
+  by_fault limit before next_at some = grind (arith, not_last)
 
   -- what is read is a chain, with at most as many directories as the file has bytes
   abbrev IsWhole : List ℕ → ℕ → ChainRead → Type 0
-  IsWhole before due chain =
-      IsChainFrom endian file before due chain.offsets chain.end
+  IsWhole before next_at chain =
+      IsChainFrom endian file before next_at chain.offsets chain.end
       × (length before + length chain.offsets ≤ length file)
 
-  at_offset : (limit : ℕ) (before : List ℕ) (due : ℕ) → due ≢ 0 → HasRoom (suc limit) before
-      → (GoesOn endian file before due → IsWhole (due ∷ before) (next_offset endian file due)
-      (read limit (due ∷ before) (next_offset endian file due)))
-      → (fault : Option FileFault) → offset_fault endian file before due ≡ fault
-      → IsWhole before due (read (suc limit) before due)
-  at_offset limit before due some room rest (Some fault) e =
-      rw (by_fault limit before due some, e) ((some, e), omega (arith, are_few (suc limit) before room))
-  at_offset limit before due some room rest None e =
-      let more = rest (going_on endian file before due some e) in
-      rw (by_fault limit before due some, e) ((refl, some, e, more.0), omega (arith, more.1))
+  at_offset : (limit : ℕ) (before : List ℕ) (next_at : ℕ) → next_at ≢ 0 → HasRoom (suc limit) before
+      → (GoesOn endian file before next_at → IsWhole (next_at ∷ before) (next_offset endian file next_at)
+      (read limit (next_at ∷ before) (next_offset endian file next_at)))
+      → (fault : Option FileFault) → offset_fault endian file before next_at ≡ fault
+      → IsWhole before next_at (read (suc limit) before next_at)
+  at_offset limit before next_at some room rest (Some fault) e =
+      rw (by_fault limit before next_at some, e) ((some, e), omega (arith, are_few (suc limit) before room))
+  at_offset limit before next_at some room rest None e =
+      let more = rest (going_on endian file before next_at some e) in
+      rw (by_fault limit before next_at some, e) ((refl, some, e, more.0), omega (arith, more.1))
 
-  whole : (limit : ℕ) (before : List ℕ) (due : ℕ) → HasRoom limit before → IsWhole before due (read limit before due)
+  whole : (limit : ℕ) (before : List ℕ) (next_at : ℕ) → HasRoom limit before
+      → IsWhole before next_at (read limit before next_at)
   unfolding read_chain_from
-  whole zero before due room = absurd (no_room before room)
+  whole zero before next_at room = absurd (no_room before room)
   whole (suc limit) before zero room =
       (refl, omega (arith, are_few (suc limit) before room))
   whole (suc limit) before (suc n) room =
@@ -122,18 +124,18 @@ module _ (endian : Endian) (file : List ℕ) where
       (offset_fault endian file before (suc n)) refl
 
   -- and there is no other
-  one : (limit : ℕ) (before : List ℕ) (due : ℕ) (offsets : List ℕ) (end : Option FileFault) → HasRoom limit before
-      → IsChainFrom endian file before due offsets end
-      → read limit before due ≡ record { offsets = offsets; end = end }
+  one : (limit : ℕ) (before : List ℕ) (next_at : ℕ) (offsets : List ℕ) (end : Option FileFault) → HasRoom limit before
+      → IsChainFrom endian file before next_at offsets end
+      → read limit before next_at ≡ record { offsets = offsets; end = end }
   unfolding read_chain_from
-  one zero before due offsets end room is = absurd (no_room before room)
-  one (suc limit) before due [] None room is = rw (is, read_chain_from) refl
-  one (suc limit) before due [] (Some fault) room is = rw (by_fault limit before due is.0, is.1) refl
-  one (suc limit) before due (q ∷ offsets) end room (is, some, good, rest) =
-      let on = going_on endian file before due some good in
-      let more = one limit (due ∷ before) (next_offset endian file due) offsets end
-      (room_on limit before due room on) rest in
-      rw (by_fault limit before due some, good, more, is) refl
+  one zero before next_at offsets end room is = absurd (no_room before room)
+  one (suc limit) before next_at [] None room is = rw (is, read_chain_from) refl
+  one (suc limit) before next_at [] (Some fault) room is = rw (by_fault limit before next_at is.0, is.1) refl
+  one (suc limit) before next_at (q ∷ offsets) end room (is, some, good, rest) =
+      let on = going_on endian file before next_at some good in
+      let more = one limit (next_at ∷ before) (next_offset endian file next_at) offsets end
+      (room_on limit before next_at room on) rest in
+      rw (by_fault limit before next_at some, good, more, is) refl
 
 pub has_one_chain : (head : Header) (file : List ℕ) → HasOneChain head file
 unfolding read_chain

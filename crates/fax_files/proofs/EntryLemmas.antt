@@ -3,14 +3,14 @@ use Rattle.std.proofs.Common.{◌≡◌, ℕ, ◌+◌, ◌*◌, ◌≤◌, true,
 use Rattle.std.specs.Prelude.{IsTrue}
 use Rattle.std.proofs.lemmas.Bool.{eq-eqb}
 use Rattle.fax_files.specs.declared.Endian.{Endian}
-use Rattle.fax_files.specs.Directory.{Entry, value_len, values_place, has_integers}
+use Rattle.fax_files.specs.Directory.{Entry, value_len, values_offset, has_integers}
 use Rattle.fax_files.specs.code.Entries.{is_integer}
 
 -- what it says of an entry that it has n values
 pub record HoldsIntegers (endian : Endian) (file : List ℕ) (entry : Entry) (n : ℕ) : Type 0 where
   pub kind : is_integer entry ≡ true
   pub count : n ≤ entry.count
-  pub inside : values_place endian file entry + n * value_len entry ≤ length file
+  pub inside : values_offset endian file entry + n * value_len entry ≤ length file
 
 pub holds_integers : (endian : Endian) (file : List ℕ) (entry : Entry) (n : ℕ)
     → IsTrue (has_integers endian file entry n)
@@ -19,11 +19,11 @@ unfolding has_integers
 holds_integers endian file entry n there = grind arith
 
 -- the value at an index below the count lies in the file
-pub value_inside : (endian : Endian) (file : List ℕ) (entry : Entry) (i place len : ℕ)
-    → place ≡ values_place endian file entry
+pub value_inside : (endian : Endian) (file : List ℕ) (entry : Entry) (i offset len : ℕ)
+    → offset ≡ values_offset endian file entry
     → len ≡ value_len entry
-    → IsTrue (has_integers endian file entry (i + 1)) → place + i * len + len ≤ length file
-value_inside endian file entry i place len place_is len_is there = grind (arith, holds_integers)
+    → IsTrue (has_integers endian file entry (i + 1)) → offset + i * len + len ≤ length file
+value_inside endian file entry i offset len place_is len_is there = grind (arith, holds_integers)
 
 -- an entry with n values has each number of values up to n
 pub fewer_integers : (endian : Endian) (file : List ℕ) (entry : Entry) (m n : ℕ) → m ≤ n

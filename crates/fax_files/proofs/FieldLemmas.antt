@@ -121,18 +121,22 @@ sought_stands tag sought none =
     ∙ eqb-true there.1 tag there.4)
 
 -- an entry that was found lies in the file
-pub entry_inside : (endian : Endian) (file : List ℕ) (place n tag : ℕ) (found : Option Entry)
-    → place + 12 * n ≤ length file
-    → found ≡ field (entries_at endian file place n) tag → IfSome found (λ entry. entry.place + 4 ≤ length file)
+pub entry_inside : (endian : Endian) (file : List ℕ) (offset n tag : ℕ) (found : Option Entry)
+    → offset + 12 * n ≤ length file
+    → found ≡ field (entries_at endian file offset n) tag → IfSome found (λ entry. entry.offset + 4 ≤ length file)
 unfolding entries_at
-entry_inside endian file place zero tag found inside is = rw is tt
-entry_inside endian file place (suc n) tag found inside is = grind (arith, entry_inside endian file (place + 12) n tag)
+entry_inside endian file offset zero tag found inside is = rw is tt
+entry_inside endian file offset (suc n) tag found inside is = grind (
+  arith,
+  entry_inside endian file (offset + 12) n
+      tag,
+)
 
 -- after the last entry there is none
-pub none_left : (endian : Endian) (file : List ℕ) (place count : ℕ) (first : List (Option Entry)) → AreFirst [] first
-    → AreFirst (entries_at endian file place (count - count)) first
+pub none_left : (endian : Endian) (file : List ℕ) (offset count : ℕ) (first : List (Option Entry)) → AreFirst [] first
+    → AreFirst (entries_at endian file offset (count - count)) first
 unfolding entries_at
-none_left endian file place count first none = grind arith
+none_left endian file offset count first none = grind arith
 
 -- an entry, and those after it
 pub one_more : (endian : Endian) (file : List ℕ) (start count k : ℕ) (entry : Entry) (old new : List (Option Entry))
@@ -148,18 +152,18 @@ one_more endian file start count k entry old new some within is so_far seen =
     rw (n, next, ← is) (seen _ so_far)
 
 -- two entries or more ascend where the first two do and all from the second on do
-two_ascend : (endian : Endian) (file : List ℕ) (place n m : ℕ) → n ≡ suc m → 0 < m
-    → ascend (entries_at endian file place n)
-    ≡ (nat_lt (number_at endian 2 file place) (number_at endian 2 file (place + 12)) && ascend
-    (entries_at endian file (place + 12) m))
+two_ascend : (endian : Endian) (file : List ℕ) (offset n m : ℕ) → n ≡ suc m → 0 < m
+    → ascend (entries_at endian file offset n)
+    ≡ (nat_lt (number_at endian 2 file offset) (number_at endian 2 file (offset + 12)) && ascend
+    (entries_at endian file (offset + 12) m))
 unfolding entries_at
-two_ascend endian file place n zero is some = absurd (omega arith)
-two_ascend endian file place n (suc m) is some = rw is refl
+two_ascend endian file offset n zero is some = absurd (omega arith)
+two_ascend endian file offset n (suc m) is some = rw is refl
 
 -- fewer than two always do
-few_ascend : (endian : Endian) (file : List ℕ) (place n : ℕ) → n ≤ 1 → ascend (entries_at endian file place n) ≡ true
+few_ascend : (endian : Endian) (file : List ℕ) (offset n : ℕ) → n ≤ 1 → ascend (entries_at endian file offset n) ≡ true
 unfolding entries_at
-few_ascend endian file place n few = grind arith
+few_ascend endian file offset n few = grind arith
 
 -- the tags of the entries at `start`, from the one before the k-th on
 module _ (endian : Endian) (file : List ℕ) (start count k : ℕ) (total : Bool) (some : 1 ≤ k)

@@ -15,11 +15,11 @@ use Rattle.fax_files.specs.Layout.{four}
 use Rattle.fax_files.specs.code.PageParts.{with_four_at}
 
 -- these bytes stand at a place of a file
-pub record HasBytesAt (file : List ℕ) (place : ℕ) (bytes : List ℕ) : Type 0 where
+pub record HasBytesAt (file : List ℕ) (offset : ℕ) (bytes : List ℕ) : Type 0 where
   pub before : List ℕ
   pub after : List ℕ
   pub there : file ≡ before ++ (bytes ++ after)
-  pub place_is : length before ≡ place
+  pub place_is : length before ≡ offset
 
 -- the same place by another name
 pub at_place : {file : List ℕ} {p q : ℕ} {bytes : List ℕ} → p ≡ q → HasBytesAt file p bytes → HasBytesAt file q bytes

@@ -8,7 +8,8 @@ use Rattle.fax_files.specs.declared.FileFault.{FileFault}
 use Rattle.fax_files.specs.declared.FileFault.TheVariants.{DirectoryLoop}
 use Rattle.fax_files.specs.Directory.{is_directory, next_offset}
 use Rattle.fax_files.specs.views.Tiff.{TiffFile}
-use Rattle.fax_files.specs.code.Chain.{onward, place, LeadsOn, IsRound, IsTurn, HasNoLoop, HasFewPages, turn_of}
+use Rattle.fax_files.specs.code.Chain.{next_of, offset, LeadsOn, IsRound, IsTurn, HasNoLoop, HasFewPages}
+use Rattle.fax_files.specs.code.Chain.{cycle_start_of}
 use Rattle.fax_files.specs.code.Chain.{turning_page}
 use Rattle.fax_files.specs.views.Chain.{chain_of}
 use Rattle.fax_files.proofs.ChainLaws.{has_one_chain}
@@ -16,28 +17,29 @@ use Rattle.fax_files.proofs.ChainPlaces.{IsByPlaces, by_places, along, link_next
 
 module _ (tiff : TiffFile) where
   -- the next offset, one place on
-  pub place_next : (i : ℕ) → place tiff (i + 1) ≡ next_offset tiff.head.endian tiff.file (place tiff i)
+  pub place_next : (i : ℕ) → offset tiff (i + 1) ≡ next_offset tiff.head.endian tiff.file (offset tiff i)
   place_next i = grind (arith, link_next)
 
-  pub along_places : (i j k a b : ℕ) → a ≡ i + k → b ≡ j + k → place tiff i ≡ place tiff j → place tiff a ≡ place tiff b
+  pub along_places : (i j k a b : ℕ) → a ≡ i + k → b ≡ j + k → offset tiff i ≡ offset tiff j → offset tiff a
+      ≡ offset tiff b
   along_places = along tiff.head.endian tiff.file tiff.head.first
 
   -- what is known where a place leads on
-  pub led : (i x : ℕ) → onward tiff.head.endian tiff.file (place tiff i) ≡ Some x
-      → ((place tiff i == 0) ≡ false) × (is_directory tiff.head.endian tiff.file (place tiff i) ≡ true)
-      × (next_offset tiff.head.endian tiff.file (place tiff i) ≡ x)
+  pub led : (i x : ℕ) → next_of tiff.head.endian tiff.file (offset tiff i) ≡ Some x
+      → ((offset tiff i == 0) ≡ false) × (is_directory tiff.head.endian tiff.file (offset tiff i) ≡ true)
+      × (next_offset tiff.head.endian tiff.file (offset tiff i) ≡ x)
   led i x e = grind arith
 
   -- a place leads on to the next one
-  pub leads : (i x : ℕ) → onward tiff.head.endian tiff.file (place tiff i) ≡ Some x
-      → (x ≡ place tiff (i + 1)) × LeadsOn tiff i
+  pub leads : (i x : ℕ) → next_of tiff.head.endian tiff.file (offset tiff i) ≡ Some x
+      → (x ≡ offset tiff (i + 1)) × LeadsOn tiff i
   leads i x e = grind (arith, place_next)
 
-  alike : (i j : ℕ) → place tiff i ≡ place tiff j → LeadsOn tiff j
-      → (x : ℕ) × (onward tiff.head.endian tiff.file (place tiff i) ≡ Some x)
-  alike i j same on = (place tiff (j + 1), ap (onward tiff.head.endian tiff.file) same ∙ on)
+  alike : (i j : ℕ) → offset tiff i ≡ offset tiff j → LeadsOn tiff j
+      → (x : ℕ) × (next_of tiff.head.endian tiff.file (offset tiff i) ≡ Some x)
+  alike i j same on = (offset tiff (j + 1), ap (next_of tiff.head.endian tiff.file) same ∙ on)
 
-  pub leads_alike : (i j : ℕ) → place tiff i ≡ place tiff j → LeadsOn tiff j → LeadsOn tiff i
+  pub leads_alike : (i j : ℕ) → offset tiff i ≡ offset tiff j → LeadsOn tiff j → LeadsOn tiff i
   leads_alike i j same on = let p = alike i j same on in (leads i p.0 p.1).1
 
   -- every place of a chain with a round leads on
@@ -46,7 +48,7 @@ module _ (tiff : TiffFile) where
   always_by start len round (suc fuel) i within = elim (cases_lt i (start + len)) [
     | inl early ↦ round.on i early
     | inr late ↦
-        let same : place tiff i ≡ place tiff (i - len) =
+        let same : offset tiff i ≡ offset tiff (i - len) =
         along_places (start + len) start (i - (start + len)) i (i - len) (omega arith) (omega arith) round.back in
         leads_alike i (i - len) same (always_by start len round fuel (i - len) (omega (arith, round.some)))
   ]
@@ -64,33 +66,33 @@ module _ (tiff : TiffFile) where
   pub before_end : (i : ℕ) → i < n → LeadsOn tiff i
   before_end i h =
       let p = the_places.on i h in
-      (leads i (next_offset tiff.head.endian tiff.file (place tiff i))
-      (onward_on tiff.head.endian tiff.file p.0 (place tiff i) p.1)).1
+      (leads i (next_offset tiff.head.endian tiff.file (offset tiff i))
+      (onward_on tiff.head.endian tiff.file p.0 (offset tiff i) p.1)).1
 
   abbrev Turns : Type 0
-  Turns = (j : ℕ) × (j < n) × (place tiff n ≡ place tiff j) × ((chain_of tiff).end ≡ Some DirectoryLoop)
+  Turns = (j : ℕ) × (j < n) × (offset tiff n ≡ offset tiff j) × ((chain_of tiff).end ≡ Some DirectoryLoop)
 
   -- a chain whose end leads on turns back there
   pub turns : LeadsOn tiff n → Turns
   turns on = grind (arith, the_places)
 
-  module _ (j : ℕ) (earlier : j < n) (back : place tiff n ≡ place tiff j) where
+  module _ (j : ℕ) (earlier : j < n) (back : offset tiff n ≡ offset tiff j) where
     -- each place on the loop has the offset of one of the chain
-    pub canonical : (i : ℕ) → j ≤ i → (k : ℕ) × (j ≤ k) × (k < n) × (place tiff i ≡ place tiff k)
+    pub canonical : (i : ℕ) → j ≤ i → (k : ℕ) × (j ≤ k) × (k < n) × (offset tiff i ≡ offset tiff k)
     canonical zero h = let none : j ≡ 0 = omega arith in (0, omega arith, omega arith, refl)
     canonical (suc i) h = elim (cases_lt i j) [
-      | inl low ↦ let same : suc i ≡ j = omega arith in (j, omega arith, earlier, ap (place tiff) same)
+      | inl low ↦ let same : suc i ≡ j = omega arith in (j, omega arith, earlier, ap (offset tiff) same)
       | inr high ↦
           let before = canonical i high in
           let k = before.0 in
-          let moved : place tiff (suc i) ≡ place tiff (k + 1) = along_places i k 1 (suc i) (k + 1) (omega arith) refl
+          let moved : offset tiff (suc i) ≡ offset tiff (k + 1) = along_places i k 1 (suc i) (k + 1) (omega arith) refl
           before.3 in
           let _kept = before.1 in
           let below : k < n = before.2 in
           elim (cases_lt (k + 1) n) [
             | inl inside ↦ (k + 1, omega (arith, before.1), inside, moved)
             | inr outside ↦ let whole : k + 1 ≡ n = omega arith in
-                (j, omega arith, earlier, moved ∙ ap (place tiff) whole ∙ back)
+                (j, omega arith, earlier, moved ∙ ap (offset tiff) whole ∙ back)
           ]
     ]
 
@@ -101,7 +103,7 @@ module _ (tiff : TiffFile) where
     ]
 
   -- a chain that stops does not turn back
-  pub stops : (t : ℕ) → onward tiff.head.endian tiff.file (place tiff t) ≡ None → HasNoLoop tiff
+  pub stops : (t : ℕ) → next_of tiff.head.endian tiff.file (offset tiff t) ≡ None → HasNoLoop tiff
   stops t none = λ loop. elim the_places.ends [
     | inl e ↦ cc (e.1, loop)
     | inr (inl e) ↦ cc (e.2, loop)
@@ -136,7 +138,7 @@ module _ (tiff : TiffFile) where
         let j = the_turn.0 in
         let earlier : j < n = the_turn.1 in
         let reached : j ≤ start = on_loop in
-        let around : place tiff (start + (n - j)) ≡ place tiff start =
+        let around : offset tiff (start + (n - j)) ≡ offset tiff start =
         along_places n j (start - j) (start + (n - j)) start (omega arith) (omega arith) the_turn.2 in
         let at_most : len ≤ n - j = elim (cases_lt (n - j) len) [
           | inl fewer ↦ absurd (round.first (n - j) (omega arith) fewer around)
@@ -146,13 +148,13 @@ module _ (tiff : TiffFile) where
         let k = p.0 in
         let low : j ≤ k = p.1 in
         let high : k < n = p.2 in
-        let moved : place tiff (k + len) ≡ place tiff k =
+        let moved : offset tiff (k + len) ≡ offset tiff k =
         sym (along_places start k len (start + len) (k + len) refl refl p.3) ∙ round.back ∙ p.3 in
         elim (cases_lt len (n - j)) [
           | inl fewer ↦ elim (cases_lt (k + len) n) [
             | inl inside ↦ absurd (the_places.apart k (k + len) (omega (arith, some)) inside (sym moved))
             | inr outside ↦
-                let wrapped : place tiff (k + len) ≡ place tiff (k + len - (n - j)) =
+                let wrapped : offset tiff (k + len) ≡ offset tiff (k + len - (n - j)) =
                 along_places n j (k + len - n) (k + len) (k + len - (n - j)) (omega arith) (omega arith) the_turn.2 in
                 absurd (the_places.apart (k + len - (n - j)) k (omega arith) high (sym wrapped ∙ moved))
           ]
@@ -166,14 +168,14 @@ module _ (tiff : TiffFile) where
     turning = grind (arith, length_is, page_is)
 
   pub is_turning_page : (start len page : ℕ) → IsRound tiff start len → IsTurn tiff len page
-      → Some (page + len) ≡ turn_of tiff
+      → Some (page + len) ≡ cycle_start_of tiff
   is_turning_page start len page round turn =
       let p = turning start len page round turn in rw (p.0, p.1) refl
 
   not_turning : (end : Option FileFault) (pages : ℕ) → end ≢ Some DirectoryLoop → None ≡ turning_page end pages
   not_turning end pages h = grind arith
 
-  pub no_turning_page : HasNoLoop tiff → None ≡ turn_of tiff
+  pub no_turning_page : HasNoLoop tiff → None ≡ cycle_start_of tiff
   no_turning_page none = not_turning (chain_of tiff).end n none
 
   pub turning_below : HasFewPages tiff → (start len page : ℕ) → IsRound tiff start len → IsTurn tiff len page

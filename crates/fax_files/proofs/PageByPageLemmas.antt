@@ -14,9 +14,9 @@ unfolding with_pages
 with_pages-push old total k [] page = grind arith
 with_pages-push old total k (first ∷ pages) page =
     let next : k + 1 + length pages ≡ k + suc (length pages) = omega arith in
-    let begun = with_page old total k first.form first.strips in
-    with_pages-push begun total (k + 1) pages page
-    ∙ ap (λ (n : ℕ). with_page (with_pages begun total (k + 1) pages) total n page.form page.strips) next
+    let origin = with_page old total k first.form first.strips in
+    with_pages-push origin total (k + 1) pages page
+    ∙ ap (λ (n : ℕ). with_page (with_pages origin total (k + 1) pages) total n page.form page.strips) next
 
 pub begins_so : (total : ℕ) → HasAdded total [] (record { written = empty_file; total = total; added = 0 })
 unfolding with_pages

@@ -95,7 +95,7 @@ module _ (endian : Endian) (file : List ℕ) (fields : List Entry) where
       } in
       within)))))))))
 
--- a form that is handed out after two steps
+-- a form that is returned after two steps
 same_end : {A B C : Type 0} (a : Result A FileFault) (b : Result B FileFault) (made form : C)
     → (a >>= λ _. b >>= λ _. Ok made) ≡ Ok form
     → form ≡ made

@@ -72,8 +72,8 @@ pub up_to_end : (file : List ℕ) (offset len begin count : ℕ) → begin ≡ m
     → count ≡ min len (length (take (length file - begin) (drop begin file)))
     → take count (take (length file - begin) (drop begin file)) ≡ take len (drop offset file)
 up_to_end file offset len begin count begin_is count_is =
-    let left : length (drop begin file) ≡ length file - begin = length-drop begin file in
+    let remaining : length (drop begin file) ≡ length file - begin = length-drop begin file in
     let rest : take (length file - begin) (drop begin file) ≡ drop begin file =
-    take_all (length file - begin) (drop begin file) (omega (arith, left)) in
+    take_all (length file - begin) (drop begin file) (omega (arith, remaining)) in
     take_at_most len count (take (length file - begin) (drop begin file)) count_is
     ∙ ap (take len) (rest ∙ drop_at_most offset begin file begin_is)

@@ -6,15 +6,15 @@ use Rattle.std.specs.Prelude.{◌==◌, IsTrue, if◌then◌else◌}
 use Rattle.std.specs.List.{list_all}
 use Rattle.std.proofs.lemmas.Bool.{and_parts}
 use Rattle.fax_files.specs.Pbm.{is_white_space, IsPiece, ArePieces, IsGap}
-use Rattle.fax_files.specs.code.Pbm.{is_line_end, is_digit, begins_piece, after_pieces, after_gap, has_digit}
+use Rattle.fax_files.specs.code.Pbm.{is_line_end, is_digit, starts_white_space, skip_white_space, after_gap, has_digit}
 
 pub white_is_no_hash : (c : ℕ) → is_white_space c ≡ true → (c == 35) ≡ false
 white_is_no_hash c white = grind arith
 
-pub white_begins : (c : ℕ) → is_white_space c ≡ true → begins_piece c ≡ true
+pub white_begins : (c : ℕ) → is_white_space c ≡ true → starts_white_space c ≡ true
 white_begins c white = rw (white_is_no_hash c white) white
 
-pub piece_is_no_digit : (c : ℕ) → begins_piece c ≡ true → is_digit c ≡ false
+pub piece_is_no_digit : (c : ℕ) → starts_white_space c ≡ true → is_digit c ≡ false
 piece_is_no_digit c piece = grind arith
 
 pub white_is_no_digit : (c : ℕ) → is_white_space c ≡ true → is_digit c ≡ false
@@ -106,22 +106,22 @@ gap_has_pieces : (bytes rest : List ℕ) → HasGap bytes rest → HasPieces byt
 gap_has_pieces bytes rest has = record { pieces = has.first ∷ has.pieces; gap = has.gap; are = has.are; is = has.is }
 
 -- the first piece begins at this byte
-first_piece : (c : ℕ) (bytes rest : List ℕ) → begins_piece c ≡ true
-    → ((in_comment : Bool) → after_pieces in_comment bytes ≡ Some rest → Has in_comment bytes rest)
-    → after_pieces (c == 35) bytes ≡ Some rest → HasGap (c ∷ bytes) rest
+first_piece : (c : ℕ) (bytes rest : List ℕ) → starts_white_space c ≡ true
+    → ((in_comment : Bool) → skip_white_space in_comment bytes ≡ Some rest → Has in_comment bytes rest)
+    → skip_white_space (c == 35) bytes ≡ Some rest → HasGap (c ∷ bytes) rest
 first_piece c bytes rest begins has next = grind (arith, comment_is_piece, white_is_piece)
 
-has_read : (in_comment : Bool) (bytes rest : List ℕ) → after_pieces in_comment bytes ≡ Some rest
+has_read : (in_comment : Bool) (bytes rest : List ℕ) → skip_white_space in_comment bytes ≡ Some rest
     → Has in_comment bytes rest
 has_read in_comment [] rest is = let no : ⊥ = cc in absurd no
 has_read true (c ∷ bytes) rest is =
-    elim (is_line_end c) as (λ v. is_line_end c ≡ v → after_pieces (not v) bytes ≡ Some rest
+    elim (is_line_end c) as (λ v. is_line_end c ≡ v → skip_white_space (not v) bytes ≡ Some rest
     → HasComment (c ∷ bytes) rest) [
       | true ↦ λ ends next. comment_ends c bytes rest ends (has_read false bytes rest next)
       | false ↦ λ goes_on next. comment_goes_on c bytes rest goes_on (has_read true bytes rest next)
     ] refl is
 has_read false (c ∷ bytes) rest is =
-    elim (begins_piece c) as (λ v. begins_piece c ≡ v → (if v then (after_pieces (c == 35) bytes) else
+    elim (starts_white_space c) as (λ v. starts_white_space c ≡ v → (if v then (skip_white_space (c == 35) bytes) else
     (Some (c ∷ bytes))) ≡ Some rest
     → HasPieces (c ∷ bytes) rest) [
       | true ↦ λ begins next.
@@ -135,8 +135,8 @@ pub gap_is_read : (bytes rest : List ℕ) → after_gap bytes ≡ Some rest
     → (gap : List ℕ) × IsGap gap × (bytes ≡ gap ++ rest)
 gap_is_read [] rest is = let no : ⊥ = cc in absurd no
 gap_is_read (c ∷ bytes) rest is =
-    elim (begins_piece c) as (λ v. begins_piece c ≡ v
-    → (if v then (if v then (after_pieces (c == 35) bytes) else (Some (c ∷ bytes))) else None) ≡ Some rest
+    elim (starts_white_space c) as (λ v. starts_white_space c ≡ v
+    → (if v then (if v then (skip_white_space (c == 35) bytes) else (Some (c ∷ bytes))) else None) ≡ Some rest
     → (gap : List ℕ) × IsGap gap × (c ∷ bytes ≡ gap ++ rest)) [
       | true ↦ λ begins next.
           let has = first_piece c bytes rest begins (λ in_comment more. has_read in_comment bytes rest more) next in
@@ -147,18 +147,19 @@ gap_is_read (c ∷ bytes) rest is =
 -- in a comment
 after_text : (text : List ℕ) (c : ℕ) (more : List ℕ) → list_all (λ t. not (is_line_end t)) text ≡ true
     → is_line_end c ≡ true
-    → after_pieces true (text ++ c ∷ more) ≡ after_pieces false more
-after_text [] c more all ends = ap (λ v. after_pieces (not v) more) ends
+    → skip_white_space true (text ++ c ∷ more) ≡ skip_white_space false more
+after_text [] c more all ends = ap (λ v. skip_white_space (not v) more) ends
 after_text (t ∷ text) c more all ends =
     let parts = and_parts (not (is_line_end t)) (list_all (λ t. not (is_line_end t)) text) all in
-    ap (λ v. after_pieces v (text ++ c ∷ more)) parts.0 ∙ after_text text c more parts.1 ends
+    ap (λ v. skip_white_space v (text ++ c ∷ more)) parts.0 ∙ after_text text c more parts.1 ends
 
-piece_passed : (piece more : List ℕ) → IsPiece piece → after_pieces false (piece ++ more) ≡ after_pieces false more
+piece_passed : (piece more : List ℕ) → IsPiece piece → skip_white_space false (piece ++ more)
+    ≡ skip_white_space false more
 piece_passed piece more h = grind (arith, append_assoc, after_text)
 
 pieces_passed : (pieces : List (List ℕ)) (gap rest : List ℕ) → ArePieces pieces gap
-    → after_pieces false (gap ++ rest) ≡ after_pieces false rest
-pieces_passed [] gap rest are = ap (λ (g : List ℕ). after_pieces false (g ++ rest)) are
+    → skip_white_space false (gap ++ rest) ≡ skip_white_space false rest
+pieces_passed [] gap rest are = ap (λ (g : List ℕ). skip_white_space false (g ++ rest)) are
 pieces_passed (piece ∷ pieces) gap rest are = grind (
   arith,
   append_assoc,
@@ -171,7 +172,7 @@ pieces_passed (piece ∷ pieces) gap rest are = grind (
 record Begins (gap : List ℕ) : Type 0 where
   first : ℕ
   others : List ℕ
-  begins : begins_piece first ≡ true
+  begins : starts_white_space first ≡ true
   is : gap ≡ first ∷ others
 
 pieces_begin : (pieces : List (List ℕ)) (gap : List ℕ) → (pieces ≡ [] → ⊥) → ArePieces pieces gap → Begins gap
@@ -187,11 +188,12 @@ gap_has_no_digit gap rest is =
     let b = gap_begins gap is in
     ap (λ (g : List ℕ). has_digit (g ++ rest)) b.is ∙ piece_is_no_digit b.first b.begins
 
-digit_stops : (rest : List ℕ) → has_digit rest ≡ true → after_pieces false rest ≡ Some rest
+digit_stops : (rest : List ℕ) → has_digit rest ≡ true → skip_white_space false rest ≡ Some rest
 digit_stops rest digit = grind arith
 
-begun_gap : (c : ℕ) (bytes : List ℕ) → begins_piece c ≡ true → after_gap (c ∷ bytes) ≡ after_pieces false (c ∷ bytes)
-begun_gap c bytes begins = ap (λ v. if v then (after_pieces false (c ∷ bytes)) else None) begins
+begun_gap : (c : ℕ) (bytes : List ℕ) → starts_white_space c ≡ true → after_gap (c ∷ bytes) ≡ skip_white_space false (c
+    ∷ bytes)
+begun_gap c bytes begins = ap (λ v. if v then (skip_white_space false (c ∷ bytes)) else None) begins
 
 -- each gap before a digit is read to its end
 pub gap_passed : (gap rest : List ℕ) → IsGap gap → has_digit rest ≡ true → after_gap (gap ++ rest) ≡ Some rest
@@ -199,6 +201,6 @@ gap_passed gap rest is digit =
     let b = gap_begins gap is in
     ap (λ (g : List ℕ). after_gap (g ++ rest)) b.is
     ∙ begun_gap b.first (b.others ++ rest) b.begins
-    ∙ ap (λ (g : List ℕ). after_pieces false (g ++ rest)) (sym b.is)
+    ∙ ap (λ (g : List ℕ). skip_white_space false (g ++ rest)) (sym b.is)
     ∙ pieces_passed is.0 gap rest is.2
     ∙ digit_stops rest digit

@@ -25,18 +25,18 @@ use Rattle.fax_files.proofs.WrittenStripLemmas.{length-offsets_from, length-leng
 use Rattle.fax_files.proofs.WrittenFileLemmas.{length-with_page}
 
 -- the values of the entries of strips
-offsets_value : (start place n : ℕ) (strips : List (List ℕ)) → length strips ≡ n
-    → (if n == 1 then start else place) ≡ one_or_place (offsets_from start strips) place
-offsets_value start place n [] count = grind arith
-offsets_value start place n (strip ∷ []) count = grind arith
-offsets_value start place n (strip ∷ next ∷ strips) count = grind arith
+offsets_value : (start offset n : ℕ) (strips : List (List ℕ)) → length strips ≡ n
+    → (if n == 1 then start else offset) ≡ one_or_place (offsets_from start strips) offset
+offsets_value start offset n [] count = grind arith
+offsets_value start offset n (strip ∷ []) count = grind arith
+offsets_value start offset n (strip ∷ next ∷ strips) count = grind arith
 
-lengths_value : (start end place n : ℕ) (strips : List (List ℕ)) → length strips ≡ n
+lengths_value : (start end offset n : ℕ) (strips : List (List ℕ)) → length strips ≡ n
     → end ≡ start + length (joined_strips strips)
-    → (if n == 1 then (end - start) else place) ≡ one_or_place (lengths_of strips) place
-lengths_value start end place n [] count end_is = grind arith
-lengths_value start end place n (strip ∷ []) count end_is = grind (arith, length-append)
-lengths_value start end place n (strip ∷ next ∷ strips) count end_is = grind (arith, ne_eqb)
+    → (if n == 1 then (end - start) else offset) ≡ one_or_place (lengths_of strips) offset
+lengths_value start end offset n [] count end_is = grind arith
+lengths_value start end offset n (strip ∷ []) count end_is = grind (arith, length-append)
+lengths_value start end offset n (strip ∷ next ∷ strips) count end_is = grind (arith, ne_eqb)
 
 -- a file that was patched grows as it would have before
 patched : (bytes more : List ℕ) (link n : ℕ) → link + 4 ≤ length bytes
@@ -88,8 +88,8 @@ module _ (bytes : List ℕ) (link total added end : ℕ) (form : PageForm) (stri
     is_short found is short = omega (arith, size, is, short)
 
     module _ (at : Layout) (laid : IsLayout at form.strips (length bytes) end added total) where
-      place : at.directory ≡ directory_place (length bytes) (contents strips)
-      place = laid.directory_is ∙ ap (λ (e : ℕ). e + e % 2) end_is
+      offset : at.directory ≡ directory_place (length bytes) (contents strips)
+      offset = laid.directory_is ∙ ap (λ (e : ℕ). e + e % 2) end_is
 
       fields_are : laid_out_fields at form
           ≡ fields_of (directory_place (length bytes) (contents strips)) total added form
@@ -123,11 +123,11 @@ module _ (bytes : List ℕ) (link total added end : ℕ) (form : PageForm) (stri
           ap (λ (l : List ℕ). with_four_at l link at.directory) now_is
           ∙ patched bytes (joined_strips (contents strips) ++ tail) link at.directory inside
           ∙ ap (λ (t : List ℕ). with_four_at bytes link at.directory ++ t) (page_is tail tail_is)
-          ∙ ap (λ (n : ℕ). with_four_at bytes link n ++ page) place
+          ∙ ap (λ (n : ℕ). with_four_at bytes link n ++ page) offset
 
       pub new_link : at.directory + to_link ≡ new.link
       unfolding with_page
-      new_link = ap (λ n. n + to_link) place
+      new_link = ap (λ n. n + to_link) offset
 
       pub still_writing : (now : List ℕ) → now ≡ new.bytes → page_end (end + end % 2) form.strips ≤ max_file
           → (at.directory + to_link + 4 ≤ length now) × (length now ≤ max_file) × (length bytes ≤ length now)

@@ -1,4 +1,4 @@
--- Pages that are told how many they are: what is written of a page stands in three parts, what is
+-- Pages that are given how many they are: what is written of a page stands in three parts, what is
 -- before its total, the total, and what is after it; and a file of pages is these parts, page after
 -- page.
 use Rattle.std.proofs.Common.{◌≡◌, ℕ, zero, suc, ◌+◌, ◌-◌, ◌*◌, ◌%◌, ◌≤◌, ◌<◌, Bool, List, [], ◌∷◌, ◌++◌, length}
@@ -59,11 +59,11 @@ page_parts link k rest page =
     let offsets = offsets_from start page.strips in
     let lengths = map length page.strips in
     let q = directory_place start page.strips in
-    let place = q + (to_link + 20) in
+    let offset = q + (to_link + 20) in
     let A : List ℕ = all ++ replicate ((start + length all) % 2) 0 in
     let E : List WrittenField = take 15 (fields_with q 0 k form
-    (field_of 273 4 (length offsets) (four (one_or_place offsets place)))
-    (field_of 279 4 (length lengths) (four (one_or_place lengths (place + 4 * length lengths))))) in
+    (field_of 273 4 (length offsets) (four (one_or_place offsets offset)))
+    (field_of 279 4 (length lengths) (four (one_or_place lengths (offset + 4 * length lengths))))) in
     let M : List ℕ = two 297 ++ two 3 ++ four 2 ++ two k in
     let V : List ℕ = four form.x.0 ++ four form.x.1 ++ (four form.y.0 ++ four form.y.1)
     ++ array_bytes offsets ++ array_bytes lengths in
@@ -180,17 +180,17 @@ pages_told x rest link T t k (page ∷ pages) is small =
     let here : number_at Little 4 W link ≡ place_of link rest page =
     number_here W link (place_of link rest page) (rest ++ parts.head ++ (two t ++ more.bytes))
     (drop_at x (front ++ (two t ++ more.bytes)) link is) (omega (arith, small, W_len)) in
-    let onward : next_link W link ≡ next = ap (λ n. n + to_link) here in
+    let next_of : next_link W link ≡ next = ap (λ n. n + to_link) here in
     let after = λ (total : ℕ). pages_told (y ++ two total) parts.tail next T t (k + 1) pages (up total).1
     (omega (arith, small, W_len, len total)) in
     record {
       are = (
-        (omega (arith, here), omega (arith, onward, W_len, some_link t (k + 1) next parts.tail pages)),
-        subst (λ n. ArePagesAfter W (length pages) n more.link) (sym onward)
+        (omega (arith, here), omega (arith, next_of, W_len, some_link t (k + 1) next parts.tail pages)),
+        subst (λ n. ArePagesAfter W (length pages) n more.link) (sym next_of)
             (subst (λ l. ArePagesAfter l (length pages) next more.link) (sym (whole t more.bytes)) (after t).are),
       );
       totals =
-          ap (λ n. with_totals T (length pages) n (with_total T n W)) onward
+          ap (λ n. with_totals T (length pages) n (with_total T n W)) next_of
           ∙ ap (λ l. with_totals T (length pages) next (with_total T next l)) (whole t more.bytes)
           ∙ ap (with_totals T (length pages) next) (total_of y (two t) more.bytes T next (up t).0 refl)
           ∙ (after T).totals
@@ -242,7 +242,7 @@ module _ (writing : Writing) (is : IsWriting writing) where
   pub are_there : ArePagesAfter writing.written.bytes writing.added 4 writing.written.link
   are_there = (told_of 0 is.pages is.added).0
 
-  -- and told how many they are they are a file
+  -- and given how many they are they are a file
   pub are_file : (pages : List WrittenPage) → HasAdded writing.total pages writing
       → with_totals writing.added writing.added 4 writing.written.bytes ≡ file_of pages
   are_file pages added =

@@ -91,19 +91,19 @@ is_appended old total k written open' w =
     let fields = fields_bytes (page_fields q start total k written) in
     let values = values_bytes written.form (offsets_from start written.strips) (lengths_of written.strips) in
     let pad_len : length pad ≡ (start + length strips) % 2 = length-replicate _ 0 in
-    let place : start + length (strips ++ pad) ≡ q = omega (arith, length-append strips pad, pad_len) in
+    let offset : start + length (strips ++ pad) ≡ q = omega (arith, length-append strips pad, pad_len) in
     let fields_len = length-page_fields q start total k written w in
     let all = appended old total k written open' in
     let with_zero = at_left (strips ++ pad ++ fields ++ four 0) values all in
     let with_fields = at_left (strips ++ pad ++ fields) (four 0) with_zero in
     let zero_place : start + length (strips ++ pad ++ fields) ≡ q + to_link =
-    omega (arith, place, fields_len, length-append (strips ++ pad) fields) in
-    let values_place : start + length (strips ++ pad ++ fields ++ four 0) ≡ q + to_x =
+    omega (arith, offset, fields_len, length-append (strips ++ pad) fields) in
+    let values_offset : start + length (strips ++ pad ++ fields ++ four 0) ≡ q + to_x =
     omega (arith, zero_place, length-append (strips ++ pad ++ fields) (four 0)) in
     record {
       page_is = record {
-        fields = at_place place (at_right (strips ++ pad) fields with_fields);
-        values = at_place values_place (at_right (strips ++ pad ++ fields ++ four 0) values all);
+        fields = at_place offset (at_right (strips ++ pad) fields with_fields);
+        values = at_place values_offset (at_right (strips ++ pad ++ fields ++ four 0) values all);
         strips = at_left strips pad (at_left (strips ++ pad) fields with_fields);
       };
       new_link = link_of old total k written;
@@ -146,10 +146,10 @@ appended_pages_are_read old total k written open' w short =
     let after = at_inside _ one.page_is.values in
     record {
       link = number_there 4 one.old_link (omega (arith, after, short));
-      kept = λ place n inside apart.
-          let bytes = take n (drop place old.bytes) in
-          let len = length-slice old.bytes place n inside in
-          let stands = one.kept place bytes (rw len apart) (at_slice old.bytes place n inside) in
+      kept = λ offset n inside apart.
+          let bytes = take n (drop offset old.bytes) in
+          let len = length-slice old.bytes offset n inside in
+          let stands = one.kept offset bytes (rw len apart) (at_slice old.bytes offset n inside) in
           rw len at (slice_there bytes stands);
       whole = directory_whole new.bytes q (length old.bytes) total k written one.page_is;
       last =
@@ -223,7 +223,7 @@ chain_through old total k (written ∷ pages) open' w small before below =
     let link =
     stays_through new total (k + 1) pages one.is_open w.1 old.link (four q) (inl (omega (arith, one.new_link, inside)))
     one.old_link in
-    let due : number_at Little 4 file old.link ≡ q = number_there 4 link (omega (arith, after, small)) in
+    let next_at : number_at Little 4 file old.link ≡ q = number_there 4 link (omega (arith, after, small)) in
     let new_place : list_any (λ o. q == o) before ≡ false =
     list_any_none (λ o. q == o) before (All-weaker (λ o. o < length old.bytes) (λ o. (q == o) ≡ false)
     (λ o lt. ne_eqb _ _ (λ e. absurd (omega (arith, e, lt)))) before below) in
@@ -237,7 +237,7 @@ chain_through old total k (written ∷ pages) open' w small before below =
     (λ o. o < length new.bytes)
     (λ o lt. omega (arith, lt, longer)) before below) in
     let rest = chain_through new total (k + 1) pages one.is_open w.1 small (q ∷ before) all_below in
-    rw (due, next) (refl, some, rw (new_place, whole) refl, rest)
+    rw (next_at, next) (refl, some, rw (new_place, whole) refl, rest)
 
 -- and each page as it was written
 pages_through : (old : Written) (total k : ℕ) (pages : List WrittenPage) → HasOpenLink old → AreWritable pages
@@ -280,8 +280,8 @@ first_there written total k pages w small =
     (inl (omega (arith, one.new_link))) one.old_link in
     let here = page_stays empty_file total k written pages (at_end (codes "II" ++ two 42) (four 0)) w.0 w.1 in
     let after = at_inside _ here.values in
-    let due = number_there 4 link (omega (arith, after, small)) in
-    (λ e. absurd (omega (arith, e, due)), omega (arith, after))
+    let next_at = number_there 4 link (omega (arith, after, small)) in
+    (λ e. absurd (omega (arith, e, next_at)), omega (arith, after))
 
 -- the law of written files
 pub written_files_are_read : WrittenFilesAreRead

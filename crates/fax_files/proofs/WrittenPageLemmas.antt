@@ -62,21 +62,21 @@ options_number Mr false = 1
 options_number Mmr aligned = 0
 
 -- T4Options among fields, of which the one for options is the only one with its tag
-options_from : (coding : Coding) (aligned : Bool) (file : List ℕ) (place : ℕ) (fields : List WrittenField)
-    → HasValues file place fields
+options_from : (coding : Coding) (aligned : Bool) (file : List ℕ) (offset : ℕ) (fields : List WrittenField)
+    → HasValues file offset fields
     → written_field fields Tags.T4_OPTIONS ≡ written_field (options_field coding aligned ∷ []) Tags.T4_OPTIONS
     → (if compression_of coding == 4 then (Ok 0)
-    else (scalar Little file (read_fields place fields) Tags.T4_OPTIONS (Some 0) (λ _. true) BadField))
+    else (scalar Little file (read_fields offset fields) Tags.T4_OPTIONS (Some 0) (λ _. true) BadField))
     ≡ Ok (options_number coding aligned)
-options_from Mh true file place fields values found =
-    long_read file place Tags.T4_OPTIONS 4 fields values (Some 0) _ BadField refl found (omega arith)
-options_from Mh false file place fields values found =
-    long_read file place Tags.T4_OPTIONS 0 fields values (Some 0) _ BadField refl found (omega arith)
-options_from Mr true file place fields values found =
-    long_read file place Tags.T4_OPTIONS 5 fields values (Some 0) _ BadField refl found (omega arith)
-options_from Mr false file place fields values found =
-    long_read file place Tags.T4_OPTIONS 1 fields values (Some 0) _ BadField refl found (omega arith)
-options_from Mmr aligned file place fields values found = refl
+options_from Mh true file offset fields values found =
+    long_read file offset Tags.T4_OPTIONS 4 fields values (Some 0) _ BadField refl found (omega arith)
+options_from Mh false file offset fields values found =
+    long_read file offset Tags.T4_OPTIONS 0 fields values (Some 0) _ BadField refl found (omega arith)
+options_from Mr true file offset fields values found =
+    long_read file offset Tags.T4_OPTIONS 5 fields values (Some 0) _ BadField refl found (omega arith)
+options_from Mr false file offset fields values found =
+    long_read file offset Tags.T4_OPTIONS 1 fields values (Some 0) _ BadField refl found (omega arith)
+options_from Mmr aligned file offset fields values found = refl
 
 -- they say how the rows are coded
 coding_back : (coding : Coding) (aligned : Bool)
@@ -158,7 +158,7 @@ values_there file q form offsets lengths h =
 pub some_strips : (written : WrittenPage) → IsWritable written → 1 ≤ length written.strips
 some_strips written w = grind arith
 
--- the step that checks an entry goes on
+-- the step that checks an entry continues
 checked_on : {B : Type 0} (r : Result Entry FileFault) (next : Result B FileFault) → IsOk r → (r >>= λ _. next) ≡ next
 checked_on r next ok = grind arith
 
@@ -233,7 +233,7 @@ module _ (file : List ℕ) (q start total k : ℕ) (written : WrittenPage) (know
         let offsets_len = length-offsets_from start written.strips in
         let lengths_len = length-lengths_of written.strips in
         let some = some_strips written known.writable in
-        let place : 2 ≤ length lengths → q + to_offsets + length (array_bytes offsets)
+        let offset : 2 ≤ length lengths → q + to_offsets + length (array_bytes offsets)
         ≡ q + to_offsets + 4 * length lengths =
         λ many. omega (
           arith,
@@ -244,7 +244,7 @@ module _ (file : List ℕ) (q start total k : ℕ) (written : WrittenPage) (know
           lengths_len,
         ) in
         array_back file (q + 2) Tags.STRIP_BYTE_COUNTS (q + to_offsets + 4 * length lengths) lengths fields values refl
-        (omega (arith, some, lengths_len)) known.small (λ many. at_place (place many) parts.lengths_there)
+        (omega (arith, some, lengths_len)) known.small (λ many. at_place (offset many) parts.lengths_there)
 
     -- so the page has the form that was written
     fields_there : form_in Little file entries_read ≡ Ok written.form
@@ -327,5 +327,5 @@ directory_whole file q start total k written here =
 pub next_there : (file : List ℕ) (q start total k : ℕ) (written : WrittenPage) → IsPageAt file q start total k written
     → next_offset Little file q ≡ number_at Little 4 file (q + to_link)
 next_there file q start total k written here =
-    let place : q + 2 + 12 * field_count ≡ q + to_link = omega arith in
-    rw (count_there file q start total k written here, place) refl
+    let offset : q + 2 + 12 * field_count ≡ q + to_link = omega arith in
+    rw (count_there file q start total k written here, offset) refl

@@ -5,7 +5,7 @@ use Rattle.std.proofs.Common.{refl, ap, arith}
 use Rattle.std.proofs.lemmas.List.{length-append}
 use Rattle.std.proofs.lemmas.Bool.{lt-leb}
 use Rattle.std.specs.Prelude.{nat_le, IsOk}
-use Rattle.fax_files.specs.Directory.{Entry, field, values_place, value_at, has_integers}
+use Rattle.fax_files.specs.Directory.{Entry, field, values_offset, value_at, has_integers}
 use Rattle.fax_files.specs.declared.Endian.TheVariants.{Little}
 use Rattle.fax_files.specs.code.Steps.{placed_bytes, strip_field}
 use Rattle.fax_files.specs.Layout.{four, WrittenField, offsets_from, one_or_place, array_bytes}
@@ -17,18 +17,18 @@ use Rattle.fax_files.specs.declared.tags.TheConstants as Tags
 
 -- the entry of LONGs at a place
 abbrev pub longs_entry : ℕ → ℕ → ℕ → Entry
-longs_entry tag count place = record { tag = tag; kind = Tags.LONG; count = count; place = place }
+longs_entry tag count offset = record { tag = tag; kind = Tags.LONG; count = count; offset = offset }
 
 -- numbers stand where an entry has its values, in the entry or after the directory
-array_there : (file : List ℕ) (p tag place : ℕ) (numbers : List ℕ) → 1 ≤ length numbers → length file < 4294967296
-    → HasBytesAt file p (four (one_or_place numbers place)) → (2 ≤ length numbers
-    → HasBytesAt file place (array_bytes numbers))
-    → HasBytesAt file (values_place Little file (longs_entry tag (length numbers) p)) (longs numbers)
-unfolding values_place
-array_there file p tag place [] some small h there = absurd (omega arith)
-array_there file p tag place (n ∷ []) some small h there = h
-array_there file p tag place (m ∷ n ∷ numbers) some small h there =
-    let array : HasBytesAt file place (longs (m ∷ n ∷ numbers)) = there (omega arith) in
+array_there : (file : List ℕ) (p tag offset : ℕ) (numbers : List ℕ) → 1 ≤ length numbers → length file < 4294967296
+    → HasBytesAt file p (four (one_or_place numbers offset)) → (2 ≤ length numbers
+    → HasBytesAt file offset (array_bytes numbers))
+    → HasBytesAt file (values_offset Little file (longs_entry tag (length numbers) p)) (longs numbers)
+unfolding values_offset
+array_there file p tag offset [] some small h there = absurd (omega arith)
+array_there file p tag offset (n ∷ []) some small h there = h
+array_there file p tag offset (m ∷ n ∷ numbers) some small h there =
+    let array : HasBytesAt file offset (longs (m ∷ n ∷ numbers)) = there (omega arith) in
     let long : nat_le (suc (suc (length numbers)) * 4) 4 ≡ false = lt-leb _ _ (omega arith) in
     rw (long, number_there 4 h (omega (arith, small, at_inside (longs (m ∷ n ∷ numbers)) array))) array
 
@@ -52,17 +52,17 @@ long_at file p (n ∷ numbers) (suc i) lt h =
 pub record ArrayThere (file : List ℕ) (fields : List Entry) (tag : ℕ) (numbers : List ℕ) : Type 0 where
   pub at_entry : ℕ
   pub entry_is : field fields tag ≡ Some (longs_entry tag (length numbers) at_entry)
-  pub stands : HasBytesAt file (values_place Little file (longs_entry tag (length numbers) at_entry)) (longs numbers)
+  pub stands : HasBytesAt file (values_offset Little file (longs_entry tag (length numbers) at_entry)) (longs numbers)
 
 -- so does the entry of numbers that were written
-pub array_back : (file : List ℕ) (place tag at_value : ℕ) (numbers : List ℕ) (fields : List WrittenField)
-    → HasValues file place fields
+pub array_back : (file : List ℕ) (offset tag at_value : ℕ) (numbers : List ℕ) (fields : List WrittenField)
+    → HasValues file offset fields
     → written_field fields tag ≡ Some (long_field tag (length numbers) (one_or_place numbers at_value))
     → 1 ≤ length numbers → length file < 4294967296 → (2 ≤ length numbers
     → HasBytesAt file at_value (array_bytes numbers))
-    → ArrayThere file (read_fields place fields) tag numbers
-array_back file place tag at_value numbers fields values found some small after =
-    let there = field_there file place tag fields (long_field tag (length numbers) (one_or_place numbers at_value))
+    → ArrayThere file (read_fields offset fields) tag numbers
+array_back file offset tag at_value numbers fields values found some small after =
+    let there = field_there file offset tag fields (long_field tag (length numbers) (one_or_place numbers at_value))
     values found in
     record {
       at_entry = there.at_entry + 8;
@@ -72,7 +72,7 @@ array_back file place tag at_value numbers fields values found some small after 
 
 -- such an entry has all the numbers
 longs_inside : (file : List ℕ) (p tag : ℕ) (numbers : List ℕ)
-    → HasBytesAt file (values_place Little file (longs_entry tag (length numbers) p)) (longs numbers)
+    → HasBytesAt file (values_offset Little file (longs_entry tag (length numbers) p)) (longs numbers)
     → has_integers Little file (longs_entry tag (length numbers) p) (length numbers) ≡ true
 unfolding has_integers
 longs_inside file p tag numbers h = grind (arith, common_steps, length-longs)
@@ -86,7 +86,7 @@ array_checked file fields tag n numbers array count = grind (arith, longs_inside
 -- and each of them is read
 long_value : (file : List ℕ) (p tag : ℕ) (numbers : List ℕ) (i : ℕ) → i < length numbers
     → get_or numbers i 0 < 4294967296
-    → HasBytesAt file (values_place Little file (longs_entry tag (length numbers) p)) (longs numbers)
+    → HasBytesAt file (values_offset Little file (longs_entry tag (length numbers) p)) (longs numbers)
     → value_at Little file (longs_entry tag (length numbers) p) i ≡ get_or numbers i 0
 unfolding value_at
 long_value file p tag numbers i lt small h = number_there 4 (long_at file _ numbers i lt h) small

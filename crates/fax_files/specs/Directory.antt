@@ -17,12 +17,12 @@ max_file = 268435456
 
 -- the n bytes from a place on lie in the file
 abbrev pub is_inside : List ℕ → ℕ → ℕ → Bool
-is_inside file place n = nat_le (place + n) (length file)
+is_inside file offset n = nat_le (offset + n) (length file)
 
 -- the number that the n bytes at a place of the file spell
 unfoldable pub number_at : Endian → ℕ → List ℕ → ℕ → ℕ
-number_at Little n file place = little_number n (drop place file)
-number_at Big n file place = big_number n (drop place file)
+number_at Little n file offset = little_number n (drop offset file)
+number_at Big n file offset = big_number n (drop offset file)
 
 -- steps that end at the first fault (ours)
 infixl 10 ◌>>=◌
@@ -30,7 +30,7 @@ abbrev pub ◌>>=◌ : {A B F : Type 0} → Result A F → (A → Result B F) �
 (Ok x) >>= next = next x
 (Err fault) >>= next = Err fault
 
--- goes on where the test holds, and else ends with the fault (ours)
+-- continues where the test holds, and else ends with the fault (ours)
 abbrev pub check : Bool → FileFault → Result (Unit {0}) FileFault
 check test fault = if test then (Ok tt) else (Err fault)
 
@@ -55,17 +55,17 @@ pub record Entry : Type 0 where
   pub tag : ℕ
   pub kind : ℕ
   pub count : ℕ
-  pub place : ℕ
+  pub offset : ℕ
 
 -- n entries of twelve bytes each from a place on
 unfoldable pub entries_at : Endian → List ℕ → ℕ → ℕ → List Entry
-entries_at endian file place zero = []
-entries_at endian file place (suc n) = record {
-  tag = number_at endian 2 file place;
-  kind = number_at endian 2 file (place + 2);
-  count = number_at endian 4 file (place + 4);
-  place = place + 8;
-} ∷ entries_at endian file (place + 12) n
+entries_at endian file offset zero = []
+entries_at endian file offset (suc n) = record {
+  tag = number_at endian 2 file offset;
+  kind = number_at endian 2 file (offset + 2);
+  count = number_at endian 4 file (offset + 4);
+  offset = offset + 8;
+} ∷ entries_at endian file (offset + 12) n
 
 -- the directory at offset q lies whole in the file: the number of its entries, these, and the next
 -- offset
@@ -91,22 +91,22 @@ value_len entry = if entry.kind == Tags.SHORT then 2 else (if entry.kind == Tags
 
 -- where an entry's values stand, SHORT, LONG or RATIONAL: in the entry if they take at most four
 -- bytes, else at the offset that it gives
-unfoldable pub values_place : Endian → List ℕ → Entry → ℕ
-values_place endian file entry =
-    if nat_le (entry.count * value_len entry) 4 then entry.place
-    else number_at endian 4 file entry.place
+unfoldable pub values_offset : Endian → List ℕ → Entry → ℕ
+values_offset endian file entry =
+    if nat_le (entry.count * value_len entry) 4 then entry.offset
+    else number_at endian 4 file entry.offset
 
 -- an entry's i-th value, SHORT or LONG
 unfoldable pub value_at : Endian → List ℕ → Entry → ℕ → ℕ
 value_at endian file entry i =
     number_at endian (if entry.kind == Tags.SHORT then 2 else 4) file
-    (values_place endian file entry + i * value_len entry)
+    (values_offset endian file entry + i * value_len entry)
 
 -- an entry has n values at least, SHORT or LONG (ours), and the first n lie in the file
 unfoldable pub has_integers : Endian → List ℕ → Entry → ℕ → Bool
 has_integers endian file entry n =
     ((entry.kind == Tags.SHORT) || (entry.kind == Tags.LONG)) && (nat_le n entry.count
-    && is_inside file (values_place endian file entry) (n * value_len entry))
+    && is_inside file (values_offset endian file entry) (n * value_len entry))
 
 -- the entry of a tag, which has to be there (ours)
 abbrev pub needed : List Entry → ℕ → Result Entry FileFault
@@ -138,19 +138,19 @@ pub record ChainRead : Type 0 where
   pub offsets : List ℕ
   pub end : Option FileFault
 
--- the chain from the offset that is due on, after these directories, the last one first: it ends at
--- an offset of 0; with a fault where one stands among them already (ours), or no whole directory
+-- the chain from the next offset on, after these directories, the last one first: it ends at an
+-- offset of 0; with a fault where one stands among them already (ours), or no whole directory
 -- stands there; and before the limit, which is above all that can be
 unfoldable pub read_chain_from : ℕ → Endian → List ℕ → List ℕ → ℕ → ChainRead
-read_chain_from zero endian file before due = record { offsets = []; end = None }
-read_chain_from (suc limit) endian file before due =
-    if due == 0 then (record { offsets = []; end = None })
-    else (if list_any (λ q. due == q) before
+read_chain_from zero endian file before next_at = record { offsets = []; end = None }
+read_chain_from (suc limit) endian file before next_at =
+    if next_at == 0 then (record { offsets = []; end = None })
+    else (if list_any (λ q. next_at == q) before
     then (record { offsets = []; end = Some file_fault.DirectoryLoop })
-    else (if is_directory endian file due then (
-    let next = next_offset endian file due in
-    let more = read_chain_from limit endian file (due ∷ before) next in
-    record more { offsets = due ∷ more.offsets })
+    else (if is_directory endian file next_at then (
+    let next = next_offset endian file next_at in
+    let more = read_chain_from limit endian file (next_at ∷ before) next in
+    record more { offsets = next_at ∷ more.offsets })
     else (record { offsets = []; end = Some file_fault.DirectoryOutside })))
 
 -- the chain of a file with this header: no two of its directories begin at one byte

@@ -46,8 +46,8 @@ offsets_from start (strip ∷ strips) = start ∷ offsets_from (start + length s
 -- strip numbers, each a LONG: what their entry has, the number itself where there is one, else
 -- where they stand, and what stands there
 abbrev pub one_or_place : List ℕ → ℕ → ℕ
-one_or_place (n ∷ []) place = n
-one_or_place _ place = place
+one_or_place (n ∷ []) offset = n
+one_or_place _ offset = offset
 
 abbrev pub array_bytes : List ℕ → List ℕ
 array_bytes (n ∷ []) = []
@@ -95,9 +95,9 @@ page_bytes start total k form strips =
     let offsets = offsets_from start strips in
     let lengths = map length strips in
     let q = directory_place start strips in
-    let place = q + (to_link + 20) in
-    let at_offsets = four (one_or_place offsets place) in
-    let at_lengths = four (one_or_place lengths (place + 4 * length lengths)) in
+    let offset = q + (to_link + 20) in
+    let at_offsets = four (one_or_place offsets offset) in
+    let at_lengths = four (one_or_place lengths (offset + 4 * length lengths)) in
     let fields = fields_with q total k form
     (field_of Tags.STRIP_OFFSETS Tags.LONG (length offsets) at_offsets)
     (field_of Tags.STRIP_BYTE_COUNTS Tags.LONG (length lengths) at_lengths) in
@@ -115,11 +115,11 @@ pub record Written : Type 0 where
 -- a file with page k of `total` at its end, to whose directory the last offset leads
 unfoldable pub with_page : Written → ℕ → ℕ → PageForm → List (List ℕ) → Written
 with_page old total k form strips =
-    let place = directory_place (length old.bytes) strips in
+    let offset = directory_place (length old.bytes) strips in
     record {
-      bytes = take old.link old.bytes ++ four place ++ drop (old.link + 4) old.bytes
+      bytes = take old.link old.bytes ++ four offset ++ drop (old.link + 4) old.bytes
           ++ page_bytes (length old.bytes) total k form strips;
-      link = place + to_link;
+      link = offset + to_link;
     }
 
 -- a page to be written: its form and the bytes of its strips

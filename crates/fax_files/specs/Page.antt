@@ -10,7 +10,7 @@ use Rattle.fax_bits.specs.declared.FillOrder.TheVariants.{MsbFirst, LsbFirst}
 use Rattle.fax_page.specs.declared.StripForm.{StripForm}
 use Rattle.fax_files.specs.Directory.{Endian, FileFault, Entry, check, entries, field}
 use Rattle.fax_files.specs.Directory.{has_integers, is_inside, needed, number_at, scalar, value_at}
-use Rattle.fax_files.specs.Directory.{values_place, ◌>>=◌}
+use Rattle.fax_files.specs.Directory.{values_offset, ◌>>=◌}
 use Rattle.fax_files.specs.declared.FileFault.TheVariants.{BadField, Unsupported, OutOfLimits}
 use Rattle.fax_files.specs.declared.tags.TheConstants as Tags
 pub use Rattle.fax_page.specs.Strip.{most_rows}
@@ -37,10 +37,10 @@ unfoldable pub rational_of : Endian → List ℕ → List Entry → ℕ → Opti
 rational_of endian file fields tag = elim (field fields tag) [
   | None ↦ None
   | Some entry ↦
-      let place = values_place endian file entry in
-      let top = number_at endian 4 file place in
-      let bottom = number_at endian 4 file (place + 4) in
-      if ((entry.kind == Tags.RATIONAL) && (nat_le 1 entry.count && is_inside file place 8))
+      let offset = values_offset endian file entry in
+      let top = number_at endian 4 file offset in
+      let bottom = number_at endian 4 file (offset + 4) in
+      if ((entry.kind == Tags.RATIONAL) && (nat_le 1 entry.count && is_inside file offset 8))
       && (nat_lt 0 top && nat_lt 0 bottom) then (Some (top, bottom)) else None
 ]
 

@@ -1,11 +1,11 @@
 //! The chain of a file's directories, read with a search for a loop that goes along.
 //!
-//! The search takes two steps for each directory that is handed out (Floyd's algorithm), so that
-//! it meets the reader before the chain turns back. It takes no memory.
+//! The search takes two steps for each directory that is returned (Floyd's algorithm), so that it
+//! meets the reader before the chain turns back. It takes no memory.
 
 ghost use Rattle.std.specs.Prelude.{◌≡◌, ℕ, ◌+◌, ◌^◌, ◌<◌, ◌≤◌, Some, unwrap_or};
 ghost use Rattle.fax_files.specs.code.Chain as Spec;
-ghost use Rattle.fax_files.specs.code.Chain.{LeadsOn, place};
+ghost use Rattle.fax_files.specs.code.Chain.{LeadsOn, offset};
 
 use crate::FileFault;
 use crate::directory::Directory;
@@ -14,7 +14,7 @@ use std::marker::Model;
 
 /// A place on the loop of a chain, and the loop's length.
 #[derive(Clone, Copy)]
-struct Round {
+struct Cycle {
     start: u64,
     len: u64,
 }
@@ -28,8 +28,8 @@ enum Search {
 }
 
 /// The offset after the directory at an offset, or none where no directory stands.
-fn onward(tiff: &Tiff, offset: u32) -> Option<u32>
-    ensures { result ≡ Spec.onward tiff.now.head.endian tiff.now.file offset }
+fn next_of(tiff: &Tiff, offset: u32) -> Option<u32>
+    ensures { result ≡ Spec.next_of tiff.now.head.endian tiff.now.file offset }
 {
     if offset == 0 {
         return None;
@@ -40,126 +40,126 @@ fn onward(tiff: &Tiff, offset: u32) -> Option<u32>
     }
 }
 
-/// The offset due after the one at which a directory stands, and 0, which is none, elsewhere.
-fn due_after(tiff: &Tiff, offset: u32) -> u32
-    ensures { result ≡ unwrap_or (Spec.onward tiff.now.head.endian tiff.now.file offset) 0 }
+/// The next offset after the one at which a directory stands, and 0, which is none, elsewhere.
+fn next_after(tiff: &Tiff, offset: u32) -> u32
+    ensures { result ≡ unwrap_or (Spec.next_of tiff.now.head.endian tiff.now.file offset) 0 }
 {
-    onward(tiff, offset).unwrap_or(0)
+    next_of(tiff, offset).unwrap_or(0)
 }
 
 /// Computes nothing: the offsets of a chain differ, and each is a number of four bytes, not 0.
-fn has_few_pages(tiff: &Tiff, file: &[u8])
+fn lemma_few_pages(tiff: &Tiff, file: &[u8])
     requires { file.now ≡ tiff.now.file }
     ensures { Spec.HasFewPages tiff.now }
 {
     let _first = tiff.first();
 }
 
-/// The offset due after the first directories of a chain.
-fn due_after_pages(tiff: &Tiff, pages: u64) -> u32
+/// The next offset after the first directories of a chain.
+fn next_after_pages(tiff: &Tiff, pages: u64) -> u32
     requires { (i : ℕ) → i < pages → LeadsOn tiff.now i }
-    ensures { result ≡ place tiff.now pages }
+    ensures { result ≡ offset tiff.now pages }
 {
-    let mut due = tiff.first();
+    let mut next_at = tiff.first();
     for _page in 0..pages {
-        due = due_after(tiff, due);
+        next_at = next_after(tiff, next_at);
     }
-    due
+    next_at
 }
 
 /// The first page of which the offset comes again after the length of the loop.
-fn first_turn(tiff: &Tiff, round: Round) -> u64
+fn cycle_start(tiff: &Tiff, round: Cycle) -> u64
     requires { Spec.IsRound tiff.now round.start round.len }
     ensures turn { Spec.IsTurn tiff.now round.len result }
     ensures early { result ≤ round.start }
 {
-    let mut ahead = due_after_pages(tiff, round.len);
+    let mut ahead = next_after_pages(tiff, round.len);
     let mut before = tiff.first();
     let mut page: u64 = 0;
     while before != ahead {
-        before = due_after(tiff, before);
-        ahead = due_after(tiff, ahead);
+        before = next_after(tiff, before);
+        ahead = next_after(tiff, ahead);
         page += 1;
     }
     page
 }
 
 /// The length of the loop on which a place lies, which is met again after as many steps.
-fn round_from(tiff: &Tiff, start: u64, kept: u32) -> Round
-    requires kept { kept ≡ place tiff.now start }
+fn cycle_from(tiff: &Tiff, start: u64, kept: u32) -> Cycle
+    requires kept { kept ≡ offset tiff.now start }
     requires some { 0 < start }
     requires limit { start < 2 ^ 32 }
-    requires back { place tiff.now (start + start) ≡ place tiff.now start }
+    requires back { offset tiff.now (start + start) ≡ offset tiff.now start }
     requires on { (i : ℕ) → i < start + start → LeadsOn tiff.now i }
     ensures { Spec.IsRound tiff.now result.start result.len }
 {
-    let mut due = due_after(tiff, kept);
+    let mut next_at = next_after(tiff, kept);
     let mut len: u64 = 1;
-    while due != kept {
-        due = due_after(tiff, due);
+    while next_at != kept {
+        next_at = next_after(tiff, next_at);
         len += 1;
     }
-    Round { start, len }
+    Cycle { start, len }
 }
 
 /// The page at which the chain turns back, where a place is met again after as many steps.
-fn turning_from(tiff: &Tiff, start: u64, kept: u32) -> u32
-    requires kept { kept ≡ place tiff.now start }
+fn cycle_start_from(tiff: &Tiff, start: u64, kept: u32) -> u32
+    requires kept { kept ≡ offset tiff.now start }
     requires some { 0 < start }
     requires limit { start < 2 ^ 32 }
-    requires back { place tiff.now (start + start) ≡ place tiff.now start }
+    requires back { offset tiff.now (start + start) ≡ offset tiff.now start }
     requires on { (i : ℕ) → i < start + start → LeadsOn tiff.now i }
-    ensures { Some result ≡ Spec.turn_of tiff.now }
+    ensures { Some result ≡ Spec.cycle_start_of tiff.now }
 {
-    has_few_pages(tiff, tiff.bytes());
-    let round = round_from(tiff, start, kept);
-    let page = first_turn(tiff, round);
+    lemma_few_pages(tiff, tiff.bytes());
+    let round = cycle_from(tiff, start, kept);
+    let page = cycle_start(tiff, round);
     (page + round.len) as u32
 }
 
-/// The search after one more directory, after which this offset is due.
-fn search_on(tiff: &Tiff, search: Search, given: u32, due: u32) -> Search
-    requires search { Spec.IsSearch tiff.now given search }
-    requires due { due ≡ place tiff.now (given + 1) }
-    requires few { given + 1 < 2 ^ 32 }
-    ensures { Spec.IsSearch tiff.now (given + 1) result }
+/// The search after one more directory, after which this offset is expected.
+fn advance_search(tiff: &Tiff, search: Search, yielded: u32, next_at: u32) -> Search
+    requires search { Spec.IsSearch tiff.now yielded search }
+    requires next_at { next_at ≡ offset tiff.now (yielded + 1) }
+    requires few { yielded + 1 < 2 ^ 32 }
+    ensures { Spec.IsSearch tiff.now (yielded + 1) result }
 {
     let Search::Running(fast) = search else {
         return search;
     };
-    let Some(between) = onward(tiff, fast) else {
+    let Some(between) = next_of(tiff, fast) else {
         return Search::Known(None);
     };
-    let Some(fast) = onward(tiff, between) else {
+    let Some(fast) = next_of(tiff, between) else {
         return Search::Known(None);
     };
-    if fast == due {
-        let turn = turning_from(tiff, given as u64 + 1, due);
+    if fast == next_at {
+        let turn = cycle_start_from(tiff, yielded as u64 + 1, next_at);
         return Search::Known(Some(turn));
     }
     Search::Running(fast)
 }
 
 /// Whether it is known that the chain turns back after so many directories.
-fn turns_at(search: Search, given: u32) -> bool
-    ensures { result ≡ Spec.turns_at search given }
+fn is_cycle_start(search: Search, yielded: u32) -> bool
+    ensures { result ≡ Spec.is_cycle_start search yielded }
 {
     match search {
-        Search::Known(Some(turn)) => turn == given,
+        Search::Known(Some(turn)) => turn == yielded,
         Search::Known(None) | Search::Running(_) => false,
     }
 }
 
 /// A reader of a file's directories, in the order of their chain. Contracts see its file and how
-/// many directories were handed out.
+/// many directories were returned.
 // The search takes no memory, which could be refused at the first page, and no pass over the chain
 // before the first page, which a stranger could make long. Each page costs at most three steps of
 // the chain, which no clause says.
 #[derive(Drop)]
 pub struct Chain<'a> {
     tiff: Tiff<'a>,
-    due: u32,
-    given: u32,
+    next_at: u32,
+    yielded: u32,
     search: Search,
 }
 
@@ -169,9 +169,9 @@ impl<'a> Model for Chain<'a> {
 
     ghost Value = { ChainState };
 
-    ghost view = { λ c. record { tiff = c.tiff; given = c.given } };
+    ghost view = { λ c. record { tiff = c.tiff; yielded = c.yielded } };
 
-    ghost invariant = { λ c. IsSearchPlace c.tiff c.due c.given c.search };
+    ghost invariant = { λ c. IsSearchPlace c.tiff c.next_at c.yielded c.search };
 }
 
 impl<'a> Chain<'a> {
@@ -180,72 +180,72 @@ impl<'a> Chain<'a> {
 
     /// A reader of the directories of a file, before the first one. Nothing is read yet.
     pub fn new(tiff: Tiff<'a>) -> Self
-        ensures { result ≡ record { tiff = tiff.entry; given = 0 } }
+        ensures { result ≡ record { tiff = tiff.entry; yielded = 0 } }
     {
-        has_few_pages(&tiff, tiff.bytes());
-        let due = tiff.first();
+        lemma_few_pages(&tiff, tiff.bytes());
+        let next_at = tiff.first();
         Chain {
             tiff,
-            due,
-            given: 0,
-            search: Search::Running(due),
+            next_at,
+            yielded: 0,
+            search: Search::Running(next_at),
         }
     }
 
     /// The same reader once more.
-    pub fn again(&self) -> Self
+    pub fn fork(&self) -> Self
         ensures { result ≡ self.now }
     {
         Chain {
-            tiff: self.tiff.again(),
-            due: self.due,
-            given: self.given,
+            tiff: self.tiff.fork(),
+            next_at: self.next_at,
+            yielded: self.yielded,
             search: self.search,
         }
     }
 
-    /// How many directories were handed out.
-    pub fn given(&self) -> u32
-        ensures { result ≡ self.now.given }
+    /// How many directories were returned.
+    pub fn yielded(&self) -> u32
+        ensures { result ≡ self.now.yielded }
     {
-        self.given
+        self.yielded
     }
 
-    /// The directory that is due, or none after the last one.
+    /// The directory that is expected, or none after the last one.
     ///
     /// # Errors
     ///
-    /// `DirectoryLoop` where the offset that is due was handed out before, `DirectoryOutside`
-    /// where no whole directory stands there.
-    pub fn due(&self) -> Result<Option<Directory<'a>>, FileFault>
+    /// `DirectoryLoop` where the next offset was returned before, `DirectoryOutside` where no whole
+    /// directory stands there.
+    pub fn peek(&self) -> Result<Option<Directory<'a>>, FileFault>
         ensures answer { result ≡ due_answer self.now }
         ensures file { IfOk result (λ found. IfSome found (IsDirectoryOf self.now.tiff)) }
     {
-        if self.due == 0 {
+        if self.next_at == 0 {
             return Ok(None);
         }
-        if turns_at(self.search, self.given) {
+        if is_cycle_start(self.search, self.yielded) {
             return Err(FileFault::DirectoryLoop);
         }
-        Ok(Some(self.tiff.directory(self.due)?))
+        Ok(Some(self.tiff.directory(self.next_at)?))
     }
 
-    /// Hands out the next directory, or none after the last one, from then on.
+    /// Returns the next directory, or none after the last one, from then on.
     ///
     /// # Errors
     ///
-    /// As `due`, from then on.
+    /// As `peek`, from then on.
     pub fn next(&mut self) -> Result<Option<Directory<'a>>, FileFault>
         ensures answer { result ≡ due_answer self.old }
         ensures file { IfOk result (λ found. IfSome found (IsDirectoryOf self.old.tiff)) }
         ensures counted { self.new ≡ after_answer self.old result }
     {
-        let answer = self.due()?;
+        let answer = self.peek()?;
         if let Some(directory) = &answer {
-            let due = directory.next_offset();
-            self.search = search_on(&self.tiff, self.search, self.given, due);
-            self.due = due;
-            self.given += 1;
+            let next_at = directory.next_offset();
+            self.search = advance_search(&self.tiff, self.search, self.yielded, next_at);
+            self.next_at = next_at;
+            self.yielded += 1;
         }
         Ok(answer)
     }

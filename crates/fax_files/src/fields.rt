@@ -160,14 +160,14 @@ impl<'d, 'a> Fields<'d, 'a> {
     pub fn directory(&self) -> Directory<'a>
         ensures { result ≡ self.now }
     {
-        self.directory.again()
+        self.directory.fork()
     }
 
     /// The first entry of a tag of `TAGS`.
     pub fn first(&self, tag: u16) -> Option<Entry>
         requires { IsTrue (is_sought tag) }
         ensures first { result ≡ Spec.field (entries_of self.now) tag }
-        ensures inside { IfSome result (λ entry. entry.place + 4 ≤ length self.now.file) }
+        ensures inside { IfSome result (λ entry. entry.offset + 4 ≤ length self.now.file) }
     {
         self.first.first(tag)
     }
@@ -176,7 +176,7 @@ impl<'d, 'a> Fields<'d, 'a> {
     pub fn needed(&self, tag: u16) -> Result<Entry, FileFault>
         requires { IsTrue (is_sought tag) }
         ensures exact { result ≡ Spec.needed (entries_of self.now) tag }
-        ensures inside { IfOk result (λ entry. entry.place + 4 ≤ length self.now.file) }
+        ensures inside { IfOk result (λ entry. entry.offset + 4 ≤ length self.now.file) }
     {
         self.first(tag).ok_or(FileFault::MissingField(tag))
     }

@@ -32,7 +32,7 @@ pub fn files_are_written_page_by_page()
     ensures { WritesPageByPage }
 {}
 
-/// Pages that are written are found by their links, and told another total they are the pages that
+/// Pages that are written are found by their links, and given another total they are the pages that
 /// say that (TIFF 6.0, PageNumber).
 pub fn totals_are_told()
     ensures { Laws.TotalsAreTold }

@@ -14,20 +14,20 @@ pub(crate) struct File<'a> {
 }
 
 /// Whether the `len` bytes from a place on lie in the file.
-pub(crate) fn is_inside(file: &[u8], place: usize, len: usize) -> bool
-    ensures { result ≡ lies_inside file.now place len }
+pub(crate) fn is_inside(file: &[u8], offset: usize, len: usize) -> bool
+    ensures { result ≡ lies_inside file.now offset len }
 {
-    place <= file.len() && len <= file.len() - place
+    offset <= file.len() && len <= file.len() - offset
 }
 
 impl<'a> File<'a> {
     /// The number of two bytes at a place.
     #[tactic(auto, unfolding(crate::specs::Directory::number_at))]
-    pub fn u16_at(&self, place: usize) -> u16
-        requires { place + 2 ≤ length self.now.bytes.now }
-        ensures { result ≡ number_at self.now.endian 2 self.now.bytes.now place }
+    pub fn u16_at(&self, offset: usize) -> u16
+        requires { offset + 2 ≤ length self.now.bytes.now }
+        ensures { result ≡ number_at self.now.endian 2 self.now.bytes.now offset }
     {
-        let bytes = &self.bytes[place..];
+        let bytes = &self.bytes[offset..];
         match self.endian {
             Endian::Little => LittleEndian::read_u16(bytes),
             Endian::Big => BigEndian::read_u16(bytes),
@@ -36,11 +36,11 @@ impl<'a> File<'a> {
 
     /// The number of four bytes at a place.
     #[tactic(auto, unfolding(crate::specs::Directory::number_at))]
-    pub fn u32_at(&self, place: usize) -> u32
-        requires { place + 4 ≤ length self.now.bytes.now }
-        ensures { result ≡ number_at self.now.endian 4 self.now.bytes.now place }
+    pub fn u32_at(&self, offset: usize) -> u32
+        requires { offset + 4 ≤ length self.now.bytes.now }
+        ensures { result ≡ number_at self.now.endian 4 self.now.bytes.now offset }
     {
-        let bytes = &self.bytes[place..];
+        let bytes = &self.bytes[offset..];
         match self.endian {
             Endian::Little => LittleEndian::read_u32(bytes),
             Endian::Big => BigEndian::read_u32(bytes),

@@ -70,7 +70,7 @@ impl<'a> Tiff<'a> {
     }
 
     /// The same file once more.
-    pub(crate) fn again(&self) -> Self
+    pub(crate) fn fork(&self) -> Self
         ensures { result ≡ self.now }
     {
         Tiff {

@@ -1,11 +1,11 @@
-//! How many pages a file has that is written page by page, told in each of them.
+//! How many pages a file has that is written page by page, reported in each of them.
 ghost use Rattle.std.specs.Prelude.{◌≡◌, ℕ, ◌+◌, ◌≤◌, ◌++◌, length, take, drop};
 ghost use Rattle.fax_files.specs.Layout.{two};
 ghost use Rattle.fax_files.specs.views.Writing as Spec;
 
 use crate::Endian;
 use crate::numbers::File;
-use crate::written::TO_LINK;
+use crate::written::TO_NEXT_OFFSET;
 use byteorder::{ByteOrder, LittleEndian};
 
 /// Where the link of the page stands to whose directory a link leads.
@@ -17,18 +17,18 @@ fn next_link(file: &[u8], link: usize) -> usize
         bytes: file,
         endian: Endian::Little,
     };
-    file.u32_at(link) as usize + TO_LINK as usize
+    file.u32_at(link) as usize + TO_NEXT_OFFSET as usize
 }
 
 /// Writes a number of two bytes at a place.
-fn set_two(file: &mut [u8], place: usize, n: u16)
-    requires { place + 2 ≤ length file.old }
-    ensures { file.new ≡ take place file.old ++ two n ++ drop (place + 2) file.old }
+fn set_u16(file: &mut [u8], offset: usize, n: u16)
+    requires { offset + 2 ≤ length file.old }
+    ensures { file.new ≡ take offset file.old ++ two n ++ drop (offset + 2) file.old }
 {
-    LittleEndian::write_u16(&mut file[place..place + 2], n);
+    LittleEndian::write_u16(&mut file[offset..offset + 2], n);
 }
 
-/// Tells each page of a file how many there are. The file is little-endian, as `TiffWriter` and
+/// Reports each page of a file how many there are. The file is little-endian, as `TiffWriter` and
 /// `write_page` write it, and has so many pages, each after the offset that leads to its directory.
 /// TIFF 6.0, PageNumber: the second number, 0 where it is not known.
 pub fn put_totals(file: &mut [u8], pages: u16)
@@ -39,6 +39,6 @@ pub fn put_totals(file: &mut [u8], pages: u16)
     let mut link = 4;
     for _ in 0..pages {
         link = next_link(file, link);
-        set_two(file, link - 2, pages);
+        set_u16(file, link - 2, pages);
     }
 }

@@ -5,7 +5,7 @@ ghost use Rattle.std.specs.Prelude.{IfSome};
 ghost use Rattle.std.specs.Option.{IfNone};
 ghost use Rattle.fax_files.specs.Page.{fill_order_of};
 ghost use Rattle.fax_files.specs.Layout as Spec;
-ghost use Rattle.fax_files.specs.code.PageParts as Parts;
+ghost use Rattle.fax_files.specs.code.PageParts as SparseBytes;
 ghost use Rattle.fax_files.specs.Directory.{max_file};
 ghost use Rattle.fax_files.specs.code.Writing.{IsLayout, laid_out_fields, tail_bytes};
 ghost use Rattle.fax_files.specs.views.Writing.{contents};
@@ -25,16 +25,16 @@ pub const MAX_FILE: u32 = 268_435_456;
 const FIELDS: usize = 16;
 /// How far after a directory's place its next offset stands: after the number of its fields, and
 /// twelve bytes of each.
-pub(crate) const TO_LINK: u32 = 2 + 12 * FIELDS as u32;
+pub(crate) const TO_NEXT_OFFSET: u32 = 2 + 12 * FIELDS as u32;
 /// How far after it the fraction of XResolution stands.
-const TO_X: u32 = TO_LINK + 4;
+const TO_X_RESOLUTION: u32 = TO_NEXT_OFFSET + 4;
 /// How far after it the fraction of YResolution stands.
-const TO_Y: u32 = TO_X + 8;
+const TO_Y_RESOLUTION: u32 = TO_X_RESOLUTION + 8;
 /// How far after it the strips' offsets stand, where there are more than one.
-const TO_OFFSETS: u32 = TO_Y + 8;
+const TO_STRIP_OFFSETS: u32 = TO_Y_RESOLUTION + 8;
 
 /// The four bytes of a number.
-pub(crate) fn four_bytes(n: u32) -> [u8; 4]
+pub(crate) fn u32_bytes(n: u32) -> [u8; 4]
     ensures { result ≡ Spec.four n }
 {
     let mut bytes = [0; 4];
@@ -43,7 +43,7 @@ pub(crate) fn four_bytes(n: u32) -> [u8; 4]
 }
 
 /// The two bytes of one number, and then those of another.
-fn two_and_two(first: u16, second: u16) -> [u8; 4]
+fn u16_pair_bytes(first: u16, second: u16) -> [u8; 4]
     ensures { result ≡ Spec.two first ++ Spec.two second }
 {
     let mut bytes = [0; 4];
@@ -53,7 +53,7 @@ fn two_and_two(first: u16, second: u16) -> [u8; 4]
 }
 
 /// Appends a number of two bytes.
-fn put_two(out: &mut Vec<u8>, n: u16) -> Result<(), AllocError>
+fn push_u16(out: &mut Vec<u8>, n: u16) -> Result<(), AllocError>
     ensures { OnOk result (out.new.items ≡ out.old.items ++ Spec.two n) }
 {
     let mut bytes = [0; 2];
@@ -62,10 +62,10 @@ fn put_two(out: &mut Vec<u8>, n: u16) -> Result<(), AllocError>
 }
 
 /// Appends a number of four bytes.
-fn put_four(out: &mut Vec<u8>, n: u32) -> Result<(), AllocError>
+fn push_u32(out: &mut Vec<u8>, n: u32) -> Result<(), AllocError>
     ensures { OnOk result (out.new.items ≡ out.old.items ++ Spec.four n) }
 {
-    out.extend_from_slice(&four_bytes(n))
+    out.extend_from_slice(&u32_bytes(n))
 }
 
 /// A field as it is written.
@@ -87,37 +87,37 @@ impl Model for Field {
 
 /// A field of one SHORT.
 fn short_field(tag: u16, n: u16) -> Field
-    ensures { result ≡ Parts.short_field tag n }
+    ensures { result ≡ SparseBytes.short_field tag n }
 {
     Field {
         tag,
         kind: tags::SHORT,
         count: 1,
-        value: two_and_two(n, 0),
+        value: u16_pair_bytes(n, 0),
     }
 }
 
 /// A field of LONGs: the one that there is, or the place of the first.
 fn long_field(tag: u16, count: u32, n: u32) -> Field
-    ensures { result ≡ Parts.long_field tag count n }
+    ensures { result ≡ SparseBytes.long_field tag count n }
 {
     Field {
         tag,
         kind: tags::LONG,
         count,
-        value: four_bytes(n),
+        value: u32_bytes(n),
     }
 }
 
 /// A field of one fraction, which stands at a place.
-fn rational_field(tag: u16, place: u32) -> Field
-    ensures { result ≡ Parts.rational_field tag place }
+fn rational_field(tag: u16, offset: u32) -> Field
+    ensures { result ≡ SparseBytes.rational_field tag offset }
 {
     Field {
         tag,
         kind: tags::RATIONAL,
         count: 1,
-        value: four_bytes(place),
+        value: u32_bytes(offset),
     }
 }
 
@@ -174,18 +174,18 @@ pub(crate) struct Layout {
 fn put_field(out: &mut Vec<u8>, field: &Field) -> Result<(), AllocError>
     ensures { OnOk result (out.new.items ≡ out.old.items ++ Spec.field_bytes field.now) }
 {
-    put_two(out, field.tag)?;
-    put_two(out, field.kind)?;
-    put_four(out, field.count)?;
+    push_u16(out, field.tag)?;
+    push_u16(out, field.kind)?;
+    push_u32(out, field.count)?;
     out.extend_from_slice(&field.value)
 }
 
 /// Appends a fraction.
 fn put_rational(out: &mut Vec<u8>, value: (u32, u32)) -> Result<(), AllocError>
-    ensures { OnOk result (out.new.items ≡ out.old.items ++ Parts.rational_bytes value) }
+    ensures { OnOk result (out.new.items ≡ out.old.items ++ SparseBytes.rational_bytes value) }
 {
-    put_four(out, value.0)?;
-    put_four(out, value.1)
+    push_u32(out, value.0)?;
+    push_u32(out, value.1)
 }
 
 /// The fields of a page.
@@ -207,15 +207,15 @@ fn page_fields(form: &PageForm, at: &Layout) -> [Field; FIELDS]
         short_field(tags::SAMPLES_PER_PIXEL, 1),
         long_field(tags::ROWS_PER_STRIP, 1, form.rows_per_strip),
         long_field(tags::STRIP_BYTE_COUNTS, at.strips, at.byte_counts),
-        rational_field(tags::X_RESOLUTION, at.directory + TO_X),
-        rational_field(tags::Y_RESOLUTION, at.directory + TO_Y),
+        rational_field(tags::X_RESOLUTION, at.directory + TO_X_RESOLUTION),
+        rational_field(tags::Y_RESOLUTION, at.directory + TO_Y_RESOLUTION),
         options_field(form.coding, form.aligned),
         short_field(tags::RESOLUTION_UNIT, form.unit),
         Field {
             tag: tags::PAGE_NUMBER,
             kind: tags::SHORT,
             count: 2,
-            value: two_and_two(at.number, at.total),
+            value: u16_pair_bytes(at.number, at.total),
         },
     ]
 }
@@ -223,38 +223,38 @@ fn page_fields(form: &PageForm, at: &Layout) -> [Field; FIELDS]
 /// Appends a directory of these fields, with the next offset 0.
 fn put_directory(out: &mut Vec<u8>, fields: &[Field]) -> Result<(), AllocError>
     requires { length fields.now < 65536 }
-    ensures { OnOk result (out.new.items ≡ out.old.items ++ Parts.fields_bytes fields.now
+    ensures { OnOk result (out.new.items ≡ out.old.items ++ SparseBytes.fields_bytes fields.now
         ++ Spec.four 0) }
 {
-    put_two(out, fields.len() as u16)?;
+    push_u16(out, fields.len() as u16)?;
     for field in fields {
         put_field(out, field)?;
     }
-    put_four(out, 0)
+    push_u32(out, 0)
 }
 
 /// Appends the offsets of strips that begin at a place.
 fn put_offsets(out: &mut Vec<u8>, start: u32, strips: &[Vec<u8>]) -> Result<(), AllocError>
-    requires { start + length (Parts.joined_strips (contents strips.now)) < 4294967296 }
+    requires { start + length (SparseBytes.joined_strips (contents strips.now)) < 4294967296 }
     ensures { OnOk result (out.new.items
-        ≡ out.old.items ++ Parts.longs (Spec.offsets_from start (contents strips.now))) }
+        ≡ out.old.items ++ SparseBytes.longs (Spec.offsets_from start (contents strips.now))) }
 {
-    let mut place = start;
+    let mut offset = start;
     for strip in strips {
-        put_four(out, place)?;
-        place += strip.len() as u32;
+        push_u32(out, offset)?;
+        offset += strip.len() as u32;
     }
     Ok(())
 }
 
 /// Appends the byte counts of strips.
 fn put_byte_counts(out: &mut Vec<u8>, strips: &[Vec<u8>]) -> Result<(), AllocError>
-    requires { length (Parts.joined_strips (contents strips.now)) < 4294967296 }
+    requires { length (SparseBytes.joined_strips (contents strips.now)) < 4294967296 }
     ensures { OnOk result (out.new.items
-        ≡ out.old.items ++ Parts.longs (Parts.lengths_of (contents strips.now))) }
+        ≡ out.old.items ++ SparseBytes.longs (SparseBytes.lengths_of (contents strips.now))) }
 {
     for strip in strips {
-        put_four(out, strip.len() as u32)?;
+        push_u32(out, strip.len() as u32)?;
     }
     Ok(())
 }
@@ -262,7 +262,7 @@ fn put_byte_counts(out: &mut Vec<u8>, strips: &[Vec<u8>]) -> Result<(), AllocErr
 /// Appends the bytes of strips. Where a growth is refused, what stood there stays in front.
 fn put_strips(out: &mut Vec<u8>, strips: &[Vec<u8>]) -> Result<(), AllocError>
     ensures ok { OnOk result (out.new.items
-        ≡ out.old.items ++ Parts.joined_strips (contents strips.now)) }
+        ≡ out.old.items ++ SparseBytes.joined_strips (contents strips.now)) }
     ensures err { OnErr result (take (length out.old.items) out.new.items ≡ out.old.items) }
 {
     for strip in strips {
@@ -288,7 +288,7 @@ pub(crate) fn page_tail(
     at: &Layout,
 ) -> Result<Vec<u8>, AllocError>
     requires end { placed.end
-        ≡ placed.start + length (Parts.joined_strips (contents placed.strips.now)) }
+        ≡ placed.start + length (SparseBytes.joined_strips (contents placed.strips.now)) }
     requires limit { at.now.directory ≤ max_file }
     requires strips { at.now.strips ≡ length placed.strips.now }
     ensures { IfOk result (λ tail. tail.items
@@ -319,11 +319,11 @@ pub(crate) fn page_end(directory: u32, strips: u32) -> u64
     } else {
         8 * u64::from(strips)
     };
-    u64::from(directory) + u64::from(TO_OFFSETS) + arrays
+    u64::from(directory) + u64::from(TO_STRIP_OFFSETS) + arrays
 }
 
 /// How a page is laid out whose strips begin at `start` and end at `end`.
-pub(crate) fn laid_out(strips: u32, start: u32, end: u32, number: u16, total: u16) -> Layout
+pub(crate) fn page_layout(strips: u32, start: u32, end: u32, number: u16, total: u16) -> Layout
     requires order { start ≤ end }
     requires limit { end_of_page (end + end % 2) strips ≤ max_file }
     ensures { IsLayout result strips start end number total }
@@ -332,7 +332,7 @@ pub(crate) fn laid_out(strips: u32, start: u32, end: u32, number: u16, total: u1
     let (offsets, byte_counts) = if strips == 1 {
         (start, end - start)
     } else {
-        let offsets = directory + TO_OFFSETS;
+        let offsets = directory + TO_STRIP_OFFSETS;
         (offsets, offsets + 4 * strips)
     };
     Layout {
@@ -349,7 +349,7 @@ pub(crate) fn laid_out(strips: u32, start: u32, end: u32, number: u16, total: u1
 /// refused, what stood there stays in front.
 pub(crate) fn append(bytes: &mut Vec<u8>, strips: &[Vec<u8>], tail: &[u8]) -> Result<(), AllocError>
     ensures ok { OnOk result (bytes.new.items
-        ≡ bytes.old.items ++ (Parts.joined_strips (contents strips.now) ++ tail.now)) }
+        ≡ bytes.old.items ++ (SparseBytes.joined_strips (contents strips.now) ++ tail.now)) }
     ensures err { OnErr result (take (length bytes.old.items) bytes.new.items ≡ bytes.old.items) }
 {
     put_strips(bytes, strips)?;
@@ -357,21 +357,21 @@ pub(crate) fn append(bytes: &mut Vec<u8>, strips: &[Vec<u8>], tail: &[u8]) -> Re
 }
 
 /// Sets the four bytes at a place.
-fn set_four(bytes: &mut [u8], place: usize, n: u32)
-    requires { place + 4 ≤ length bytes.old }
-    ensures { bytes.new ≡ Parts.with_four_at bytes.old place n }
+fn set_u32(bytes: &mut [u8], offset: usize, n: u32)
+    requires { offset + 4 ≤ length bytes.old }
+    ensures { bytes.new ≡ SparseBytes.with_four_at bytes.old offset n }
 {
-    bytes[place..place + 4].copy_from_slice(&four_bytes(n));
+    bytes[offset..offset + 4].copy_from_slice(&u32_bytes(n));
 }
 
 /// The place after strips that begin at a place, if it is within the limit of a file.
 pub(crate) fn strips_end(start: u32, strips: &[Vec<u8>]) -> Option<u32>
     requires { start ≤ max_file }
     ensures found { IfSome result (λ end. end
-        ≡ start + length (Parts.joined_strips (contents strips.now))) }
+        ≡ start + length (SparseBytes.joined_strips (contents strips.now))) }
     ensures limit { IfSome result (λ end. end ≤ max_file) }
     ensures none { IfNone result (max_file
-        < start + length (Parts.joined_strips (contents strips.now))) }
+        < start + length (SparseBytes.joined_strips (contents strips.now))) }
 {
     let mut end = start;
     for strip in strips {
@@ -384,9 +384,9 @@ pub(crate) fn strips_end(start: u32, strips: &[Vec<u8>]) -> Option<u32>
 }
 
 /// Sets the four bytes at a place of a file.
-pub(crate) fn set_link(bytes: &mut Vec<u8>, place: usize, n: u32)
-    requires { place + 4 ≤ length bytes.old.items }
-    ensures { bytes.new.items ≡ Parts.with_four_at bytes.old.items place n }
+pub(crate) fn set_link(bytes: &mut Vec<u8>, offset: usize, n: u32)
+    requires { offset + 4 ≤ length bytes.old.items }
+    ensures { bytes.new.items ≡ SparseBytes.with_four_at bytes.old.items offset n }
 {
-    set_four(bytes, place, n);
+    set_u32(bytes, offset, n);
 }

@@ -1,4 +1,4 @@
--- How rows that nobody counted end stays, whatever follows.
+-- How the rows of a strip of unknown height end stays, whatever follows.
 use Rattle.std.proofs.Common.{◌≡◌, ◌≢◌, ℕ, zero, suc, List, [], ◌∷◌, ◌++◌, Bool, true, false, refl, ap, ◌∙◌, arith}
 use Rattle.std.proofs.Common.{append_assoc, inl, inr, length, replicate, Some}
 use Rattle.std.specs.Prelude.{◌⊎◌}
@@ -11,22 +11,22 @@ use Rattle.fax_page.specs.declared.StripFault.TheVariants.{DataEnds, EndMarker}
 use Rattle.fax_page.specs.Lines.{Coding, Mh, Mr, Mmr, StripFault, StripForm, IsCause, start_by}
 use Rattle.fax_page.proofs.LineParts.{cause_of}
 use Rattle.fax_page.proofs.StartLaws.{eol_is, none_at}
-use Rattle.fax_page.specs.Strip.{AreReturnEols, HasEndMark, IsReturnEol, end_bits, end_of_line}
-use Rattle.fax_page.specs.Uncounted.{EndsSo, Fault}
+use Rattle.fax_page.specs.Strip.{AreRtcEols, HasEndMark, IsRtcEol, end_bits, eol_bits}
+use Rattle.fax_page.specs.Uncounted.{RowsEndAs, Fault}
 use Rattle.fax_page.specs.laws.Following.{EndsStayWhateverFollows, StaysWhateverFollows}
 use Rattle.fax_page.specs.laws.Strips.{ReadsLinesOneWay}
 use Rattle.fax_page.proofs.FollowingLaws.{eol_stays}
 use Rattle.fax_page.proofs.StartLemmas.{eleven_ahead, eleven_alone}
 
 -- an end mark stays
-pub return_eol_stays : (coding : Coding) (b rest more : List Bool) → IsReturnEol coding b rest
-    → IsReturnEol coding (b ++ more) (rest ++ more)
+pub return_eol_stays : (coding : Coding) (b rest more : List Bool) → IsRtcEol coding b rest
+    → IsRtcEol coding (b ++ more) (rest ++ more)
 return_eol_stays Mh b rest more eol = eol_stays more b rest eol
 return_eol_stays Mr b rest more eol = eol_stays more b (true ∷ rest) eol
 return_eol_stays Mmr b rest more eol = eol
 
-pub eols_stay : (coding : Coding) (n : ℕ) (b rest more : List Bool) → AreReturnEols coding n b rest
-    → AreReturnEols coding n (b ++ more) (rest ++ more)
+pub eols_stay : (coding : Coding) (n : ℕ) (b rest more : List Bool) → AreRtcEols coding n b rest
+    → AreRtcEols coding n (b ++ more) (rest ++ more)
 eols_stay coding zero b rest more eols = ap (λ c. c ++ more) eols
 eols_stay coding (suc n) b rest more eols =
     (eols.0 ++ more, return_eol_stays coding b eols.0 more eols.1, eols_stay coding n eols.0 rest more eols.2)
@@ -53,7 +53,7 @@ mark_is_cause form i reference b Mr is mark =
     (inr (OneDimensional, mark.1.0, rw is (ap (start_by Mr i b) mark.1.1), inl (inl (marker.0, marker.1, refl))))
 mark_is_cause form i reference b Mmr is mark =
     cause_of form i reference b EndMarker
-    (inr (TwoDimensional, b, rw is refl, inl (inl (true ∷ end_of_line ++ mark.0, mark.1, refl))))
+    (inr (TwoDimensional, b, rw is refl, inl (inl (true ∷ eol_bits ++ mark.0, mark.1, refl))))
 
 -- and zeros alone are, or are where the data end
 pub zeros_are_cause : (form : StripForm) (i : ℕ) (reference : List Colour) (b : List Bool) (coding : Coding)
@@ -84,13 +84,14 @@ front_zeros (false ∷ b) more (suc n) is =
 
 module _ (reads : (form : StripForm) (i : ℕ) (reference : List Colour) → ReadsLinesOneWay form i reference)
     (stays : (form : StripForm) (i : ℕ) (reference : List Colour) → StaysWhateverFollows form i reference) where
-  fault_stays : (form : StripForm) (i row : ℕ) (reference : List Colour) (left more : List Bool) (fault : StripFault)
+  fault_stays : (form : StripForm) (i row : ℕ) (reference : List Colour) (remaining more : List Bool) (fault :
+      StripFault)
       → fault ≢ DataEnds
-      → fault ≢ EndMarker → IsCause form i reference left fault
-      → EndsSo form.coding row (left ++ more) (Some fault) (Fault fault)
-  fault_stays form i row reference left more fault no_end no_marker cause =
-      let b = left ++ more in
-      let now = (stays form i reference).fault left more fault no_end cause in
+      → fault ≢ EndMarker → IsCause form i reference remaining fault
+      → RowsEndAs form.coding row (remaining ++ more) (Some fault) (Fault fault)
+  fault_stays form i row reference remaining more fault no_end no_marker cause =
+      let b = remaining ++ more in
+      let now = (stays form i reference).fault remaining more fault no_end cause in
       let one = (reads form i reference).line.one_fault b fault in (
         λ mark. no_marker (one EndMarker now (mark_is_cause form i reference b form.coding refl mark)),
         λ ends.
@@ -103,7 +104,7 @@ module _ (reads : (form : StripForm) (i : ℕ) (reference : List Colour) → Rea
 
   pub ends_stay : EndsStayWhateverFollows
   ends_stay = record {
-    mark = λ coding row left more stop mark. mark_stays coding left more mark;
+    mark = λ coding row remaining more stop mark. mark_stays coding remaining more mark;
     fault = fault_stays;
-    fill = λ row left more ends. (ends.0, front_zeros left more ends.1.0 ends.1.1);
+    fill = λ row remaining more ends. (ends.0, front_zeros remaining more ends.1.0 ends.1.1);
   }

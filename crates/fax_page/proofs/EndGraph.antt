@@ -9,8 +9,8 @@ use Rattle.fax_page.specs.declared.RowsEnd.{RowsEnd}
 use Rattle.fax_page.specs.declared.RowsEnd.TheVariants.{Marked, DataEnd, Fault, TooMany}
 use Rattle.fax_page.specs.declared.StripFault.{StripFault}
 use Rattle.fax_page.specs.Lines.{NextOne, ends_line, in_code, next_one, not_there}
-use Rattle.fax_page.specs.Strip.{AreReturnEols, HasEndMark, IsEndMark, IsReturnEol, end_bits, end_of_line}
-use Rattle.fax_page.specs.Uncounted.{EndsSo, HasDataEnd}
+use Rattle.fax_page.specs.Strip.{AreRtcEols, HasEndMark, IsEndMark, IsRtcEol, end_bits, eol_bits}
+use Rattle.fax_page.specs.Uncounted.{RowsEndAs, HasDataEnd}
 use Rattle.fax_page.specs.laws.StripGraphs.{EndsAreToldByAFunction}
 use Rattle.fax_page.specs.reads.Uncounted.{ends, after_mark, after_return, after_returns, has_data_end, has_end_mark}
 use Rattle.fax_page.specs.reads.Uncounted.{end_by_stop, rows_end}
@@ -19,14 +19,14 @@ use Rattle.fax_rows.proofs.StepReadLemmas.{is_false}
 use Rattle.fax_page.proofs.StartLaws.{by_next, eol_is_not_zeros, none_at}
 
 -- an EOL of a return to control
-return_of : (coding : Coding) (b rest : List Bool) → IsReturnEol coding b rest
+return_of : (coding : Coding) (b rest : List Bool) → IsRtcEol coding b rest
     → after_return coding (next_one 0 b) ≡ Some rest
 return_of Mh b rest eol = ap (after_return Mh) eol
 return_of Mr b rest eol = ap (after_return Mr) eol
 return_of Mmr b rest eol = absurd eol
 
 is_return : (coding : Coding) (b rest : List Bool) (one : NextOne) → next_one 0 b ≡ one
-    → after_return coding one ≡ Some rest → IsReturnEol coding b rest
+    → after_return coding one ≡ Some rest → IsRtcEol coding b rest
 is_return Mh b rest (ends_line after) at found = cc (at, found)
 is_return Mr b rest (ends_line (true ∷ after)) at found = cc (at, found)
 is_return coding b rest one at found = absurd (cc (found))
@@ -34,7 +34,7 @@ is_return coding b rest one at found = absurd (cc (found))
 -- the bits after EOLs of a return to control
 abbrev AreAfter : Coding → ℕ → List Bool → Option (List Bool) → Type 0
 AreAfter coding n b r =
-    MatchOption r ((rest : List Bool) × AreReturnEols coding n b rest → ⊥) (AreReturnEols coding n b)
+    MatchOption r ((rest : List Bool) × AreRtcEols coding n b rest → ⊥) (AreRtcEols coding n b)
 
 one_more : (coding : Coding) (n : ℕ) (b middle : List Bool) (r : Option (List Bool))
     → after_return coding (next_one 0 b) ≡ Some middle → AreAfter coding n middle r
@@ -45,7 +45,7 @@ one_more coding n b middle None at more = λ are.
     let (rest, (other, eol, others)) = are in
     let same : Some other ≡ Some middle = sym (return_of coding b other eol) ∙ at in
     let is : other ≡ middle = cc (same) in
-    more (rest, subst (λ c. AreReturnEols coding n c rest) is others)
+    more (rest, subst (λ c. AreRtcEols coding n c rest) is others)
 
 by_return : (coding : Coding) (n : ℕ) (b : List Bool) (r : Option (List Bool))
     → after_return coding (next_one 0 b) ≡ r
@@ -98,52 +98,61 @@ is_data_end (suc row) b is = (omega arith, by (next_one 0 b) refl is)
 mark_is_not_zeros : (coding : Coding) (b : List Bool) → HasEndMark coding b → IsAllZeros b → ⊥
 mark_is_not_zeros Mh b mark all = eol_is_not_zeros b mark.1.0 mark.1.1 all
 mark_is_not_zeros Mr b mark all = eol_is_not_zeros b (true ∷ mark.1.0) mark.1.1 all
-mark_is_not_zeros Mmr b mark all = eol_is_not_zeros b (end_of_line ++ mark.0) (ap (next_one 0) mark.1) all
+mark_is_not_zeros Mmr b mark all = eol_is_not_zeros b (eol_bits ++ mark.0) (ap (next_one 0) mark.1) all
 
 -- how rows end is defined so
-by_data : (coding : Coding) (row : ℕ) (left : List Bool) (stop : Option StripFault) (test : Bool)
-    → (HasEndMark coding left → ⊥)
-    → has_data_end row left ≡ test
-    → EndsSo coding row left stop (elim test [ true ↦ DataEnd | false ↦ end_by_stop stop ])
-by_data coding row left stop true unmarked at = is_data_end row left at
-by_data coding row left None false unmarked at =
-    (unmarked, (λ has. true≢false (sym (data_end_of row left has) ∙ at)), refl)
-by_data coding row left (Some fault) false unmarked at =
-    (unmarked, (λ has. true≢false (sym (data_end_of row left has) ∙ at)), refl)
+by_data : (coding : Coding) (row : ℕ) (remaining : List Bool) (stop : Option StripFault) (test : Bool)
+    → (HasEndMark coding remaining → ⊥)
+    → has_data_end row remaining ≡ test
+    → RowsEndAs coding row remaining stop (elim test [ true ↦ DataEnd | false ↦ end_by_stop stop ])
+by_data coding row remaining stop true unmarked at = is_data_end row remaining at
+by_data coding row remaining None false unmarked at =
+    (unmarked, (λ has. true≢false (sym (data_end_of row remaining has) ∙ at)), refl)
+by_data coding row remaining (Some fault) false unmarked at =
+    (unmarked, (λ has. true≢false (sym (data_end_of row remaining has) ∙ at)), refl)
 
-by_mark : (coding : Coding) (row : ℕ) (left : List Bool) (stop : Option StripFault) (test : Bool)
-    → has_end_mark coding left ≡ test
-    → EndsSo coding row left stop (elim test [
+by_mark : (coding : Coding) (row : ℕ) (remaining : List Bool) (stop : Option StripFault) (test : Bool)
+    → has_end_mark coding remaining ≡ test
+    → RowsEndAs coding row remaining stop (elim test [
       | true ↦ Marked
-      | false ↦ elim (has_data_end row left) [ true ↦ DataEnd | false ↦ end_by_stop stop ]
+      | false ↦ elim (has_data_end row remaining) [ true ↦ DataEnd | false ↦ end_by_stop stop ]
     ])
-by_mark coding row left stop true at = is_mark coding left at
-by_mark coding row left stop false at =
-    by_data coding row left stop _ (λ mark. true≢false (sym (mark_of coding left mark) ∙ at)) refl
+by_mark coding row remaining stop true at = is_mark coding remaining at
+by_mark coding row remaining stop false at =
+    by_data coding row remaining stop _ (λ mark. true≢false (sym (mark_of coding remaining mark) ∙ at)) refl
 
-pub end_is : (coding : Coding) (row : ℕ) (left : List Bool) (stop : Option StripFault)
-    → EndsSo coding row left stop (rows_end coding row left stop)
-end_is coding row left stop = by_mark coding row left stop (has_end_mark coding left) refl
+pub end_is : (coding : Coding) (row : ℕ) (remaining : List Bool) (stop : Option StripFault)
+    → RowsEndAs coding row remaining stop (rows_end coding row remaining stop)
+end_is coding row remaining stop = by_mark coding row remaining stop (has_end_mark coding remaining) refl
 
 -- and what is defined is said
-no_mark : (coding : Coding) (left : List Bool) → (HasEndMark coding left → ⊥) → has_end_mark coding left ≡ false
-no_mark coding left unmarked = is_false _ (λ is. unmarked (is_mark coding left is))
+no_mark : (coding : Coding) (remaining : List Bool) → (HasEndMark coding remaining → ⊥) → has_end_mark coding remaining
+    ≡ false
+no_mark coding remaining unmarked = is_false _ (λ is. unmarked (is_mark coding remaining is))
 
-no_data_end : (row : ℕ) (left : List Bool) → (HasDataEnd row left → ⊥) → has_data_end row left ≡ false
-no_data_end row left more = is_false _ (λ is. more (is_data_end row left is))
+no_data_end : (row : ℕ) (remaining : List Bool) → (HasDataEnd row remaining → ⊥) → has_data_end row remaining ≡ false
+no_data_end row remaining more = is_false _ (λ is. more (is_data_end row remaining is))
 
-pub end_of : (coding : Coding) (row : ℕ) (left : List Bool) (stop : Option StripFault) (end : RowsEnd)
-    → EndsSo coding row left stop end
-    → rows_end coding row left stop ≡ end
-end_of coding row left stop Marked ends = rw (mark_of coding left ends, rows_end) refl
-end_of coding row left stop DataEnd ends =
-    rw (no_mark coding left (λ mark. mark_is_not_zeros coding left mark ends.1), data_end_of row left ends, rows_end)
+pub end_of : (coding : Coding) (row : ℕ) (remaining : List Bool) (stop : Option StripFault) (end : RowsEnd)
+    → RowsEndAs coding row remaining stop end
+    → rows_end coding row remaining stop ≡ end
+end_of coding row remaining stop Marked ends = rw (mark_of coding remaining ends, rows_end) refl
+end_of coding row remaining stop DataEnd ends =
+    rw (
+      no_mark coding remaining (λ mark. mark_is_not_zeros coding remaining mark ends.1),
+      data_end_of row remaining
+          ends,
+      rows_end,
+    )
     refl
-end_of coding row left stop (Fault fault) ends =
-    rw (no_mark coding left ends.0, no_data_end row left ends.1, ends.2, rows_end) refl
-end_of coding row left stop TooMany ends =
-    rw (no_mark coding left ends.0, no_data_end row left ends.1, ends.2, rows_end) refl
+end_of coding row remaining stop (Fault fault) ends =
+    rw (no_mark coding remaining ends.0, no_data_end row remaining ends.1, ends.2, rows_end) refl
+end_of coding row remaining stop TooMany ends =
+    rw (no_mark coding remaining ends.0, no_data_end row remaining ends.1, ends.2, rows_end) refl
 
 pub ends_graph : EndsAreToldByAFunction
-ends_graph coding row left stop end =
-    (end_of coding row left stop end, λ is. subst (EndsSo coding row left stop) is (end_is coding row left stop))
+ends_graph coding row remaining stop end = (
+  end_of coding row remaining stop end,
+  λ is. subst (RowsEndAs coding row remaining stop) is (end_is coding row
+      remaining stop),
+)

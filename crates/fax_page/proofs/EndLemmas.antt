@@ -6,18 +6,18 @@ use Rattle.std.proofs.Common.{IsTrue, Option, Some, None, MatchOption, not, is_s
 use Rattle.std.proofs.Common.{inl, inr}
 use Rattle.std.specs.List.{Contains}
 use Rattle.std.proofs.lemmas.List.Elements.{Contains-append_right}
-use Rattle.fax_bits.specs.Bits.{IsAllZeros, code_bits, BeginsWith}
-use Rattle.fax_bits.specs.views.Source.{HasZerosAhead, Source, IsTaken}
+use Rattle.fax_bits.specs.Bits.{IsAllZeros, code_bits, StartsWith}
+use Rattle.fax_bits.specs.views.Source.{HasLeadingZeros, Source, IsTaken}
 use Rattle.fax_page.specs.declared.Coding.{Coding}
 use Rattle.fax_page.specs.declared.Coding.TheVariants.{Mh, Mr, Mmr}
 use Rattle.fax_page.specs.declared.StripFault.{StripFault}
-use Rattle.fax_page.specs.Strip.{end_bits, IsReturnEol, AreReturnEols, IsEndMark, HasEndMark}
+use Rattle.fax_page.specs.Strip.{end_bits, IsRtcEol, AreRtcEols, IsEndMark, HasEndMark}
 use Rattle.fax_page.specs.code.Notes.{IsAfterEnd, AreEolsTaken, IsAfterMark, TakesReturnEol, AreNotesAfter}
 use Rattle.fax_page.specs.code.Starts.{HasEol, HasNoEol}
 use Rattle.fax_page.proofs.StartLaws.{same_eol, eol_is_not_below}
 
 -- a 1 after zeros is among the bits
-pub contains_one : (b : List Bool) (zeros : ℕ) → HasZerosAhead b zeros → Contains b true
+pub contains_one : (b : List Bool) (zeros : ℕ) → HasLeadingZeros b zeros → Contains b true
 contains_one b zeros ahead =
     subst (λ c. Contains c true) (sym ahead.1)
     (Contains-append_right (replicate zeros false) (true ∷ ahead.0) true (0, omega arith, refl))
@@ -40,8 +40,8 @@ pub eol_taken : (b rest : List Bool) → HasEol false b rest → IsEndOfLine b r
 eol_taken b rest h = grind arith
 
 -- an EOL of a return to control is taken in one way
-pub same_return_eol : (coding : Coding) (b rest remaining : List Bool) → IsReturnEol coding b rest
-    → IsReturnEol coding b remaining
+pub same_return_eol : (coding : Coding) (b rest remaining : List Bool) → IsRtcEol coding b rest
+    → IsRtcEol coding b remaining
     → rest ≡ remaining
 same_return_eol Mh b rest remaining first second = same_eol b rest remaining first second
 same_return_eol Mr b rest remaining first second =
@@ -51,23 +51,23 @@ same_return_eol Mmr b rest remaining first second = absurd first
 -- EOLs that are taken one after another
 module _ (coding : Coding) (b : List Bool) where
   abbrev Stand : List Bool → ℕ → Type 0
-  Stand rest n = AreReturnEols coding n b rest
+  Stand rest n = AreRtcEols coding n b rest
 
   pub none_taken : AreEolsTaken coding b 0 b
   none_taken = grind arith
 
   module _ (ahead : List Bool) (i : ℕ) (taken : AreEolsTaken coding b i ahead) where
-    pub one_taken : (rest : List Bool) → IsReturnEol coding ahead rest → AreEolsTaken coding b (i + 1) rest
+    pub one_taken : (rest : List Bool) → IsRtcEol coding ahead rest → AreEolsTaken coding b (i + 1) rest
     one_taken rest eol = record {
       onward = λ n after eols. subst (Stand after) (omega arith) (taken.onward (suc n) after (rest, eol, eols));
       back = λ n after eols.
           let found = taken.back (suc n) after (subst (Stand after) (omega arith) eols) in
-          subst (λ c. AreReturnEols coding n c after) (same_return_eol coding ahead found.0 rest found.1 eol) found.2;
+          subst (λ c. AreRtcEols coding n c after) (same_return_eol coding ahead found.0 rest found.1 eol) found.2;
     }
 
-    pub one_missing : i < 6 → ((after : List Bool) → IsReturnEol coding ahead after → ⊥) → (rest : List Bool)
+    pub one_missing : i < 6 → ((after : List Bool) → IsRtcEol coding ahead after → ⊥) → (rest : List Bool)
         → Stand rest 6 → ⊥
-    one_missing due none rest eols =
+    one_missing upcoming none rest eols =
         let count : 6 ≡ i + suc (5 - i) = omega arith in
         let found = taken.back (suc (5 - i)) rest (subst (Stand rest) count eols) in
         none found.0 found.1
@@ -76,33 +76,34 @@ module _ (coding : Coding) (b : List Bool) where
     all_taken all = let count : i + 0 ≡ 6 = omega (arith, all) in subst (Stand ahead) count (taken.onward 0 ahead refl)
 
 -- an end mark was found or not, and a 1 after it or after the last row
-pub record IsEndFound (coding : Coding) (left : List Bool) (ended more : Bool) : Type 0 where
+pub record IsEndFound (coding : Coding) (remaining : List Bool) (ended more : Bool) : Type 0 where
   pub after : List Bool
-  pub after_end : IsAfterEnd coding left after
-  pub mark : IsTrue ended ↔ HasEndMark coding left
+  pub after_end : IsAfterEnd coding remaining after
+  pub mark : IsTrue ended ↔ HasEndMark coding remaining
   pub one : IsTrue more ↔ Contains after true
 
-pub one_found : (b : List Bool) (zeros : Option ℕ) → MatchOption zeros (IsAllZeros b) (HasZerosAhead b)
+pub one_found : (b : List Bool) (zeros : Option ℕ) → MatchOption zeros (IsAllZeros b) (HasLeadingZeros b)
     → IsTrue (is_some zeros) ↔ Contains b true
 one_found b None all = (λ is. absurd (cc is), λ has. absurd (contains_none b all has))
 one_found b (Some zeros) ahead = (λ is. contains_one b zeros ahead, λ has. refl)
 
 -- the same as the program finds it: after the end mark
-pub end_found : (coding : Coding) (left after : List Bool) (zeros : Option ℕ) (more : Bool) (found : Bool × Bool)
-    → IsEndMark coding left after
-    → MatchOption zeros (IsAllZeros after) (HasZerosAhead after) → more ≡ is_some zeros → found ≡ (true, more)
-    → IsEndFound coding left found.0 found.1
-end_found coding left after zeros more found mark ahead more_is found_is = grind (arith, one_found)
+pub end_found : (coding : Coding) (remaining after : List Bool) (zeros : Option ℕ) (more : Bool) (found : Bool × Bool)
+    → IsEndMark coding remaining after
+    → MatchOption zeros (IsAllZeros after) (HasLeadingZeros after) → more ≡ is_some zeros → found ≡ (true, more)
+    → IsEndFound coding remaining found.0 found.1
+end_found coding remaining after zeros more found mark ahead more_is found_is = grind (arith, one_found)
 
 -- or after the last row
-pub no_end_found : (coding : Coding) (left : List Bool) (zeros : Option ℕ) (more : Bool) (found : Bool × Bool)
-    → ((rest : List Bool) → IsEndMark coding left rest → ⊥) → MatchOption zeros (IsAllZeros left) (HasZerosAhead left)
-    → more ≡ is_some zeros → found ≡ (false, more) → IsEndFound coding left found.0 found.1
-no_end_found coding left zeros more found none ahead more_is found_is = rw (found_is, more_is) (record {
-  after = left;
+pub no_end_found : (coding : Coding) (remaining : List Bool) (zeros : Option ℕ) (more : Bool) (found : Bool × Bool)
+    → ((rest : List Bool) → IsEndMark coding remaining rest → ⊥)
+    → MatchOption zeros (IsAllZeros remaining) (HasLeadingZeros remaining)
+    → more ≡ is_some zeros → found ≡ (false, more) → IsEndFound coding remaining found.0 found.1
+no_end_found coding remaining zeros more found none ahead more_is found_is = rw (found_is, more_is) (record {
+  after = remaining;
   after_end = inr (λ has. none has.0 has.1, refl);
   mark = (λ is. absurd (cc is), λ has. absurd (none has.0 has.1));
-  one = one_found left zeros ahead;
+  one = one_found remaining zeros ahead;
 })
 
 abbrev pub IsMhOrMr : Coding → Type 0
@@ -113,32 +114,32 @@ not_mmr coding (inl is) other = cc
 not_mmr coding (inr is) other = cc
 
 -- the notes by them: in MH and MR
-pub notes_of_eols : (coding : Coding) (left : List Bool) (ended more other : Bool) → IsMhOrMr coding
-    → IsEndFound coding left ended more
-    → AreNotesAfter coding left other (record {
+pub notes_of_eols : (coding : Coding) (remaining : List Bool) (ended more other : Bool) → IsMhOrMr coding
+    → IsEndFound coding remaining ended more
+    → AreNotesAfter coding remaining other (record {
       no_end_of_block = false;
       return_to_control = ended;
       data_after_end = more;
       not_t4_choice =
           other;
     })
-notes_of_eols coding left ended more other either found = grind arith
+notes_of_eols coding remaining ended more other either found = grind arith
 
 -- and in MMR
-pub notes_of_block : (coding : Coding) (left : List Bool) (ended more other : Bool) → coding ≡ Mmr
-    → IsEndFound coding left ended more
-    → AreNotesAfter coding left other (record {
+pub notes_of_block : (coding : Coding) (remaining : List Bool) (ended more other : Bool) → coding ≡ Mmr
+    → IsEndFound coding remaining ended more
+    → AreNotesAfter coding remaining other (record {
       no_end_of_block = not ended;
       return_to_control = false;
       data_after_end =
           more;
       not_t4_choice = other;
     })
-notes_of_block coding left ended more other is_mmr found = grind arith
+notes_of_block coding remaining ended more other is_mmr found = grind arith
 
 -- a return to control is the end mark of MH and MR
 pub eols_end : (coding : Coding) (b : List Bool) (found : Option Source) → IsMhOrMr coding
-    → IsAfterMark (AreReturnEols coding 6 b) found
+    → IsAfterMark (AreRtcEols coding 6 b) found
     → IsAfterMark (IsEndMark coding b) found
 eols_end Mh b found either after = after
 eols_end Mr b found either after = after
@@ -153,7 +154,7 @@ pub block_end : (coding : Coding) (b rest : List Bool) → coding ≡ Mmr → b 
     → IsEndMark coding b rest
 block_end coding b rest is taken = grind (arith, block_bits)
 
-pub no_block_end : (coding : Coding) (b rest : List Bool) → coding ≡ Mmr → (BeginsWith b (code_bits 24 4097) → ⊥)
+pub no_block_end : (coding : Coding) (b rest : List Bool) → coding ≡ Mmr → (StartsWith b (code_bits 24 4097) → ⊥)
     → IsEndMark coding b rest
     → ⊥
 no_block_end coding b rest is none mark =
@@ -162,7 +163,7 @@ no_block_end coding b rest is none mark =
 
 -- an EOL and a bit after it, as the program takes them
 pub no_return_eol : (coding : Coding) (b rest : List Bool) (fault : StripFault) → HasNoEol false b fault
-    → IsReturnEol coding b rest → ⊥
+    → IsRtcEol coding b rest → ⊥
 no_return_eol Mh b rest fault none eol = no_eol b rest fault none eol
 no_return_eol Mr b rest fault none eol = no_eol b (true ∷ rest) fault none eol
 no_return_eol Mmr b rest fault none eol = eol
@@ -176,7 +177,7 @@ pub tag_taken : (coding : Coding) (b after : List Bool) (result : Bool) (rest : 
     → IsTaken (code_bits 1 1) after result rest → TakesReturnEol coding b result rest
 tag_taken coding b after true rest is eol taken = grind (arith, one_bit)
 tag_taken coding b after false rest is eol taken = λ more return_eol.
-    let found = subst (λ c. IsReturnEol c b more) is return_eol in
+    let found = subst (λ c. IsRtcEol c b more) is return_eol in
     taken.1 (
       more,
       same_eol b after (true ∷ more) (eol_taken b after eol) found

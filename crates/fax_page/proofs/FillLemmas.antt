@@ -8,7 +8,7 @@ use Rattle.std.proofs.lemmas.Nat.Bits.{bit_at_above}
 use Rattle.std.proofs.lemmas.List.{replicate-append-replicate}
 use Rattle.fax_bits.specs.Bits.{code_bits}
 use Rattle.fax_bits.specs.views.Sink.{Sink, Appends}
-use Rattle.fax_page.specs.Strip.{end_of_line, fill_zeros}
+use Rattle.fax_page.specs.Strip.{eol_bits, fill_zeros}
 use Rattle.fax_page.proofs.StartLaws.{eol_at}
 
 -- a number that fits fits more bits too
@@ -28,11 +28,11 @@ code_bits-after_zeros (suc n) len number fits =
 
 -- bits that begin with fill and an EOL
 pub end_of_line_back : (n : ℕ) (tail codes more : List Bool)
-    → IsEndOfLine (((replicate n false ++ (end_of_line ++ tail)) ++ codes) ++ more) (tail ++ (codes ++ more))
+    → IsEndOfLine (((replicate n false ++ (eol_bits ++ tail)) ++ codes) ++ more) (tail ++ (codes ++ more))
 end_of_line_back n tail codes more =
     let rest = tail ++ (codes ++ more) in
-    let parts = append_assoc (replicate n false ++ (end_of_line ++ tail)) codes more
-    ∙ append_assoc (replicate n false) (end_of_line ++ tail) (codes ++ more) in
+    let parts = append_assoc (replicate n false ++ (eol_bits ++ tail)) codes more
+    ∙ append_assoc (replicate n false) (eol_bits ++ tail) (codes ++ more) in
     let zeros = sym (append_assoc (replicate n false) (replicate 11 false) (true ∷ rest))
     ∙ ap (λ (b : List Bool). b ++ true ∷ rest) (replicate-append-replicate n 11 false) in
     eol_at _ rest (n + 11) (omega arith) (parts ∙ zeros)

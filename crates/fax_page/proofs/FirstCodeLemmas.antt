@@ -8,10 +8,10 @@ use Rattle.fax_bits.specs.declared.Colour.{Colour}
 use Rattle.fax_bits.specs.declared.Colour.TheVariants.{White}
 use Rattle.fax_bits.specs.declared.run_codes.RunCode.TheVariants.{Terminating, MakeUp}
 use Rattle.fax_bits.specs.Bits.{code_bits}
-use Rattle.fax_bits.specs.Codes.{IsRun, bits_of, Takes, Spells}
+use Rattle.fax_bits.specs.Codes.{IsRun, bits_of, Decodes, DecodesAll}
 use Rattle.fax_bits.specs.Reading.{read}
 use Rattle.fax_bits.specs.Tables.{run_table, modes, white_runs, white_terminating, white_make_up, common_make_up}
-use Rattle.fax_bits.specs.views.Source.{HasZerosAhead}
+use Rattle.fax_bits.specs.views.Source.{HasLeadingZeros}
 use Rattle.fax_rows.specs.ReadRows.{read_one_dimensional, read_two_dimensional}
 use Rattle.fax_rows.proofs.RowRuleLemmas.{runs_rule, first_step_rule}
 use Rattle.fax_page.specs.declared.Dimension.TheVariants.{OneDimensional, TwoDimensional}
@@ -29,7 +29,7 @@ has_one (suc n) (true ∷ b) = true
 has_one (suc n) (false ∷ b) = has_one n b
 
 ahead_of : (n : ℕ) (b more : List Bool) → has_one n b ≡ true
-    → (zeros : ℕ) × (zeros < n) × HasZerosAhead (b ++ more) zeros
+    → (zeros : ℕ) × (zeros < n) × HasLeadingZeros (b ++ more) zeros
 ahead_of zero b more h = cc
 ahead_of (suc n) [] more h = cc
 ahead_of (suc n) (true ∷ b) more h = (0, omega arith, (b ++ more, refl))
@@ -64,14 +64,14 @@ all_have_one-modes = refl
 -- bits of which a code is taken
 taken_begins : {M : Type 0} (table : List (CodeEntry M)) (b : List Bool) (meaning : M) (rest : List Bool)
     → all_have_one table ≡ true
-    → Takes table b meaning rest → BeginsBelowEleven b
+    → Decodes table b meaning rest → BeginsBelowEleven b
 taken_begins table b meaning rest all taken =
     let ahead = ahead_of 11 (bits_of taken.entry) rest
     (one_at table taken.listed.0 taken.entry all taken.listed.1 taken.listed.2) in
     code_at b ahead.2.0 ahead.0 ahead.1 (taken.spelled ∙ ahead.2.1)
 
 run_begins : (make_up : List ℕ) (last : ℕ) (b rest : List Bool)
-    → Spells (run_table White) b (map MakeUp make_up ++ Terminating last ∷ []) rest
+    → DecodesAll (run_table White) b (map MakeUp make_up ++ Terminating last ∷ []) rest
     → BeginsBelowEleven b
 run_begins [] last b rest spelled = taken_begins (run_table White) b (Terminating last) spelled.0 all_have_one-white
     spelled.1
@@ -83,16 +83,16 @@ runs_begin : (width : ℕ) (b : List Bool) (row : List Colour) (rest : List Bool
 runs_begin width b row rest some is =
     runs_rule width (λ at b pels rest. at.colour ≡ White → length at.pels < width → BeginsBelowEleven b)
     (λ at b end white inside. absurd (omega (arith, inside, end)))
-    (λ at to b left pels rest unfinished run more white inside.
-    let first = subst (λ c. IsRun c b run.n left) white run.run in
-    run_begins first.make_up first.last b left first.spelled)
+    (λ at to b remaining pels rest unfinished run more white inside.
+    let first = subst (λ c. IsRun c b run.n remaining) white run.run in
+    run_begins first.make_up first.last b remaining first.spelled)
     (record { pels = []; colour = White }) b row rest is refl some
 
 steps_begin : (reference : List Colour) (b : List Bool) (row : List Colour) (rest : List Bool)
     → read_two_dimensional reference b ≡ read row rest → BeginsBelowEleven b
 steps_begin reference b row rest is =
     first_step_rule reference (λ b. BeginsBelowEleven b)
-    (λ at b new left step. taken_begins modes b step.mode step.after all_have_one-modes step.taken)
+    (λ at b new remaining step. taken_begins modes b step.mode step.after all_have_one-modes step.taken)
     b row rest is
 
 -- the codes of a row of at least one pel

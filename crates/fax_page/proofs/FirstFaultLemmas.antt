@@ -1,11 +1,11 @@
--- Eleven zeros where a row's first code is due, as the program takes them.
+-- Eleven zeros where a row's first code is expected, as the program takes them.
 use Rattle.fax_page.specs.code.Starts.{BeginsBelowEleven}
 use Rattle.std.proofs.Common.{◌≡◌, ℕ, List, ◌++◌, replicate, Bool, false, refl, ap, sym, ◌∙◌, inl, inr, arith}
 use Rattle.std.proofs.Common.{length}
 use Rattle.std.proofs.lemmas.Bool.{cases_lt}
 use Rattle.std.proofs.lemmas.List.{length-replicate}
-use Rattle.fax_bits.specs.Bits.{BeginsWith, IsAllZeros, code_bits}
-use Rattle.fax_bits.specs.views.Source.{HasZerosAhead}
+use Rattle.fax_bits.specs.Bits.{StartsWith, IsAllZeros, code_bits}
+use Rattle.fax_bits.specs.views.Source.{HasLeadingZeros}
 use Rattle.fax_page.specs.declared.StripFault.TheVariants.{DataEnds, EndMarker}
 use Rattle.fax_page.specs.code.Starts.{IsFirstCodeFault}
 use Rattle.fax_page.proofs.StartLaws.{code_at}
@@ -15,7 +15,7 @@ eleven : code_bits 11 0 ≡ replicate 11 false
 unfolding code_bits
 eleven = refl
 
-begins : (b : List Bool) → ((after : List Bool) × (b ≡ replicate 11 false ++ after)) → BeginsWith b (code_bits 11 0)
+begins : (b : List Bool) → ((after : List Bool) × (b ≡ replicate 11 false ++ after)) → StartsWith b (code_bits 11 0)
 begins b has = (has.0, has.1 ∙ ap (λ front. front ++ has.0) (sym eleven))
 
 -- they stand there
@@ -23,7 +23,7 @@ pub marker_there : (b after : List Bool) → b ≡ code_bits 11 0 ++ after → I
 marker_there b after is = inl (after, is ∙ ap (λ front. front ++ after) eleven, refl)
 
 -- they do not, and there is a 1
-pub few_ahead : (b : List Bool) (zeros : ℕ) → (BeginsWith b (code_bits 11 0) → ⊥) → HasZerosAhead b zeros
+pub few_ahead : (b : List Bool) (zeros : ℕ) → (StartsWith b (code_bits 11 0) → ⊥) → HasLeadingZeros b zeros
     → BeginsBelowEleven b
 few_ahead b zeros none ahead =
     elim (cases_lt zeros 11) [
@@ -32,7 +32,7 @@ few_ahead b zeros none ahead =
     ]
 
 -- or there is none
-pub few_alone : (b : List Bool) → (BeginsWith b (code_bits 11 0) → ⊥) → IsAllZeros b → IsFirstCodeFault b DataEnds
+pub few_alone : (b : List Bool) → (StartsWith b (code_bits 11 0) → ⊥) → IsAllZeros b → IsFirstCodeFault b DataEnds
 few_alone b none all =
     elim (cases_lt all.0 11) [
       | inl few ↦ inr (all.0, few, all.1, refl)

@@ -2,7 +2,7 @@
 use Rattle.std.proofs.Common.{◌≡◌, ℕ, zero, suc, ◌+◌, List, [], ◌∷◌, ◌++◌, replicate, Bool, true}
 use Rattle.std.proofs.Common.{false, refl, ap, sym, ◌∙◌, subst, arith, append_assoc, Option, Some, None}
 use Rattle.std.specs.Prelude.{nat_le, if◌then◌else◌, MatchOption}
-use Rattle.fax_bits.specs.Bits.{BeginsWith}
+use Rattle.fax_bits.specs.Bits.{StartsWith}
 use Rattle.fax_bits.specs.Codes.{after_front}
 use Rattle.fax_bits.specs.Reading.{Read, read, failed, map_fault}
 use Rattle.fax_bits.specs.Tables.{modes}
@@ -82,7 +82,7 @@ module _ (more : List Bool) where
   first_front b = by (after_front (replicate 11 false) b) (next_one 0 b) (front_is (replicate 11 false) b) refl
     where
       by : (r : Option (List Bool)) (one : NextOne)
-          → MatchOption r (BeginsWith b (replicate 11 false) → ⊥) (λ rest. b ≡ replicate 11 false ++ rest)
+          → MatchOption r (StartsWith b (replicate 11 false) → ⊥) (λ rest. b ≡ replicate 11 false ++ rest)
           → next_one 0 b ≡ one → IsFront DataEnds more b (first_bits r one b) (check_first (b ++ more))
       by (Some after) one is at =
           stops b EndMarker _ (marker_of (b ++ more) (after ++ more)
@@ -129,16 +129,16 @@ module _ (runs_read : (colour : Colour) → ReadsRunsOneWay colour) (modes_read 
 -- rows of bits, and then those of what is left
 module _ (stays : (form : StripForm) (i : ℕ) (reference : List Colour) → StaysWhateverFollows form i reference) where
   pub in_pieces : ReadsInPieces
-  in_pieces form i reference b more [] others None end left after lines onward =
+  in_pieces form i reference b more [] others None end remaining after lines onward =
       subst (λ c. AreLines form i reference (c ++ more) others end after) (sym lines.0)
-      (subst (λ j. AreLines form j reference (left ++ more) others end after) (omega arith) onward)
-  in_pieces form i reference b more [] others (Some fault) end left after lines onward =
+      (subst (λ j. AreLines form j reference (remaining ++ more) others end after) (omega arith) onward)
+  in_pieces form i reference b more [] others (Some fault) end remaining after lines onward =
       subst (λ c. AreLines form i reference (c ++ more) others end after) (sym lines.0)
-      (subst (λ j. AreLines form j reference (left ++ more) others end after) (omega arith) onward)
-  in_pieces form i reference b more (row ∷ rows) others stop end left after lines onward = (
+      (subst (λ j. AreLines form j reference (remaining ++ more) others end after) (omega arith) onward)
+  in_pieces form i reference b more (row ∷ rows) others stop end remaining after lines onward = (
     lines.0 ++ more,
     lines.1,
     (stays form i reference).row b more row lines.0 lines.2,
-    in_pieces form (i + 1) row lines.0 more rows others stop end left after lines.3
-        (subst (λ j. AreLines form j (last_of row rows) (left ++ more) others end after) (omega arith) onward),
+    in_pieces form (i + 1) row lines.0 more rows others stop end remaining after lines.3
+        (subst (λ j. AreLines form j (last_of row rows) (remaining ++ more) others end after) (omega arith) onward),
   )

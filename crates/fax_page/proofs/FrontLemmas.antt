@@ -11,7 +11,7 @@ use Rattle.fax_bits.specs.declared.mode_codes.ModeCode.{ModeCode}
 use Rattle.fax_bits.specs.declared.mode_codes.ModeCode.TheVariants as mode
 use Rattle.fax_bits.specs.declared.run_codes.RunCode.{RunCode}
 use Rattle.fax_bits.specs.declared.run_codes.RunCode.TheVariants as run
-use Rattle.fax_bits.specs.Codes.{bits_of, Takes, after_front, is_cut_code, read_code}
+use Rattle.fax_bits.specs.Codes.{bits_of, Decodes, after_front, is_cut_code, read_code}
 use Rattle.fax_bits.specs.Reading.{Read, read, failed, ◌>>=◌, map_fault}
 use Rattle.fax_bits.specs.Reading.{Step, onward, done, stopped, step_by, and_more, steps_within, steps}
 use Rattle.fax_bits.specs.Tables.{run_table, modes}
@@ -77,8 +77,8 @@ module _ {F : Type 0} {ends : F} {more : List Bool} where
 
   after_bits : {A : Type 0} (b rest : List Bool) (r now all : Read A F) → EndsWith b rest → all ≡ now
       → IsFront ends more rest r now → IsFront ends more b r all
-  after_bits b rest (read x left) now all from at is =
-      record { is = (onwards b rest left from is.is.0, at ∙ is.is.1) }
+  after_bits b rest (read x remaining) now all from at is =
+      record { is = (onwards b rest remaining from is.is.0, at ∙ is.is.1) }
   after_bits b rest (failed fault) now all from at is = record { is = λ other. at ∙ is.is other }
 
   -- one after another
@@ -94,10 +94,10 @@ module _ {F : Type 0} {ends : F} {more : List Bool} where
 
   step_after_bits : {S A : Type 0} (b rest : List Bool) (s now all : Step S A F) → EndsWith b rest → all ≡ now
       → IsStepFront ends more rest s now → IsStepFront ends more b s all
-  step_after_bits b rest (onward at left) now all from is front =
-      record { is = (onwards b rest left from front.is.0, is ∙ front.is.1) }
-  step_after_bits b rest (done x left) now all from is front =
-      record { is = (onwards b rest left from front.is.0, is ∙ front.is.1) }
+  step_after_bits b rest (onward at remaining) now all from is front =
+      record { is = (onwards b rest remaining from front.is.0, is ∙ front.is.1) }
+  step_after_bits b rest (done x remaining) now all from is front =
+      record { is = (onwards b rest remaining from front.is.0, is ∙ front.is.1) }
   step_after_bits b rest (stopped fault) now all from is front = record { is = λ other. is ∙ front.is other }
 
   -- a step that begins with something that is read
@@ -159,8 +159,8 @@ answer_of {A} {F} {ends} {more} {b} {r} {now} x rest at front = by r at front.is
   where
     by : (r : Read A F) → r ≡ read x rest → IsFrontOf ends more b r now
         → EndsWith b rest × (now ≡ read x (rest ++ more))
-    by (read y left) is front =
-        let there : left ≡ rest = cc (is) in
+    by (read y remaining) is front =
+        let there : remaining ≡ rest = cc (is) in
         let here : y ≡ x = cc (is) in
         rw (sym there, sym here) front
     by (failed fault) is front = absurd (cc (is))
@@ -170,7 +170,7 @@ pub fault_of : {A F : Type 0} {ends : F} {more b : List Bool} {r now : Read A F}
 fault_of {A} {F} {ends} {more} {b} {r} {now} fault other at front = by r at front.is
   where
     by : (r : Read A F) → r ≡ failed fault → IsFrontOf ends more b r now → now ≡ failed fault
-    by (read y left) is front = absurd (cc (is))
+    by (read y remaining) is front = absurd (cc (is))
     by (failed why) is front =
         let here : why ≡ fault = cc (is) in
         front (λ same. other (sym here ∙ same)) ∙ ap (λ f. failed f) here
@@ -200,7 +200,7 @@ code_front {M} more table b reads = by (read_code table b) refl
         → IsFront DataEnds more b (map_fault row_fault r) (row_code table (b ++ more))
     by (read meaning rest) at =
         let taken = (reads.code b meaning rest).1 at in
-        let now : Takes table (b ++ more) meaning (rest ++ more) = record {
+        let now : Decodes table (b ++ more) meaning (rest ++ more) = record {
           entry = taken.entry;
           listed = taken.listed;
           means = taken.means;

@@ -1,4 +1,4 @@
--- What a function reads of damaged rows that nobody counted is what is defined.
+-- What a function reads of damaged rows of a strip of unknown height is what is defined.
 use Rattle.std.proofs.Common.{arith, ◌≡◌, ℕ, zero, suc, ◌+◌, ◌<◌, List, [], ◌∷◌, Bool, true, false, refl, ap, sym}
 use Rattle.std.proofs.Common.{◌∙◌, subst, inl, inr, Option, Some, None}
 use Rattle.std.specs.Prelude.{if◌then◌else◌, ◌⊎◌}
@@ -10,11 +10,11 @@ use Rattle.fax_page.specs.declared.StripFault.{StripFault}
 use Rattle.fax_page.specs.declared.StripFault.TheVariants.{MissingEol}
 use Rattle.fax_page.specs.declared.StripForm.{StripForm}
 use Rattle.fax_page.specs.Lines.{white_row}
-use Rattle.fax_page.specs.Uncounted.{EndsSo}
-use Rattle.fax_page.specs.Salvage.{IsReadOver, SalvagedRow, found, lost, next_due, sought_from, unended}
-use Rattle.fax_page.specs.LeftUncounted.{AreLeftUncounted, GoesOnUncounted, IsEndBefore, IsRowDue}
+use Rattle.fax_page.specs.Uncounted.{RowsEndAs}
+use Rattle.fax_page.specs.Salvage.{IsReadFrom, SalvagedRow, found, lost, resync_point, resync_from, unended}
+use Rattle.fax_page.specs.LeftUncounted.{AreLeftUncounted, ResumesUncounted, IsEndBefore, HasNextRow}
 use Rattle.fax_page.specs.Lines.{read_start}
-use Rattle.fax_page.specs.reads.Salvage.{lacks_eol, read_over}
+use Rattle.fax_page.specs.reads.Salvage.{is_unterminated, read_over}
 use Rattle.fax_page.specs.reads.Uncounted.{rows_end}
 use Rattle.fax_page.specs.reads.Salvage.{RowsAndEnd, before_rows, end_or_row, salvage_uncounted}
 use Rattle.fax_page.specs.reads.Salvage.{uncounted_after_lost, uncounted_from_eol, uncounted_row}
@@ -27,27 +27,29 @@ More = Option StripFault → List Colour → List Bool → RowsAndEnd
 
 -- these are the rows from row i on, and their end
 abbrev Are : StripForm → ℕ → Option StripFault → List Colour → List Bool → RowsAndEnd → Type 0
-Are form i before reference b left = AreLeftUncounted form i before reference b left.0 left.1
+Are form i before reference b remaining = AreLeftUncounted form i before reference b remaining.0 remaining.1
 
 abbrev GoesOn : StripForm → ℕ → List Bool → StripFault → RowsAndEnd → Type 0
-GoesOn form i b fault left =
-    GoesOnUncounted form i b fault
-    (λ due. AreLeftUncounted form (i + 1) (Some fault) (white_row form.width) due left.0 left.1) left.0 left.1
+GoesOn form i b fault remaining =
+    ResumesUncounted form i b fault
+    (λ upcoming. AreLeftUncounted form (i + 1) (Some fault) (white_row form.width) upcoming remaining.0 remaining.1)
+    remaining.0
+    remaining.1
 
 -- what follows a lost row
-module _ (n : ℕ) (form : StripForm) (i : ℕ) (b : List Bool) (more : More) (due : i + suc n ≡ form.rows)
+module _ (n : ℕ) (form : StripForm) (i : ℕ) (b : List Bool) (more : More) (upcoming : i + suc n ≡ form.rows)
     (are : (before : Option StripFault) (row : List Colour) (rest : List Bool)
     → 0 < n → Are form (i + 1) before row rest (more before row rest)) where
   goes_on : (fault : StripFault) → GoesOn form i b fault (uncounted_after_lost n form i b more fault)
-  goes_on fault = at_due n due are (next_due form.coding from) refl
+  goes_on fault = at_due n upcoming are (resync_point form.coding from) refl
     where
       from : List Bool
-      from = sought_from b (read_start form.coding i b)
+      from = resync_from b (read_start form.coding i b)
 
       at_due : (m : ℕ) → i + suc m ≡ form.rows
           → ((before : Option StripFault) (row : List Colour) (rest : List Bool)
           → 0 < m → Are form (i + 1) before row rest (more before row rest))
-          → (o : Option (List Bool)) → next_due form.coding from ≡ o
+          → (o : Option (List Bool)) → resync_point form.coding from ≡ o
           → GoesOn form i b fault (uncounted_from_eol m form more fault o)
       at_due zero count are None is = (from, refl, inl (inl is, refl, refl))
       at_due zero count are (Some at) is =
@@ -61,23 +63,23 @@ module _ (n : ℕ) (form : StripForm) (i : ℕ) (b : List Bool) (more : More) (d
 
 -- a row and those after it
 module _ (n : ℕ) (form : StripForm) (i : ℕ) (before : Option StripFault) (reference : List Colour) (b : List Bool)
-    (more : More) (count : i + suc n ≡ form.rows) (due : IsRowDue form i b)
+    (more : More) (count : i + suc n ≡ form.rows) (upcoming : HasNextRow form i b)
     (are : (before : Option StripFault) (row : List Colour) (rest : List Bool)
     → Are form (i + 1) before row rest (more before row rest)) where
   after : (fault : StripFault) → GoesOn form i b fault (uncounted_after_lost n form i b more fault)
   after fault = goes_on n form i b more count (λ before row rest some. are before row rest) fault
 
-  by_end : (row : List Colour) (rest : List Bool) → IsReadOver form i before reference b row rest → (missing : Bool)
-      → lacks_eol form i rest ≡ missing
+  by_end : (row : List Colour) (rest : List Bool) → IsReadFrom form i before reference b row rest → (missing : Bool)
+      → is_unterminated form i rest ≡ missing
       → Are form i before reference b
       (if missing then (before_rows (unended row) (uncounted_after_lost n form i b more MissingEol)) else
       (before_rows (found row) (more None row rest)))
   by_end row rest over true at =
       let missing = lacks_where form i rest at in
-      (rest, due, over, missing.0, missing.1, after MissingEol)
+      (rest, upcoming, over, missing.0, missing.1, after MissingEol)
   by_end row rest over false at = (
     rest,
-    due,
+    upcoming,
     over,
     (λ eol below. let missing = lacks form i rest eol below in absurd (cc (at, missing))),
     are None row rest,
@@ -85,13 +87,13 @@ module _ (n : ℕ) (form : StripForm) (i : ℕ) (before : Option StripFault) (re
 
   by_line : (r : Line) → IsOver form i before reference b r
       → Are form i before reference b (uncounted_row n form i b more r)
-  by_line (read row rest) over = by_end row rest over (lacks_eol form i rest) refl
-  by_line (failed fault) cause = (due, cause, after fault)
+  by_line (read row rest) over = by_end row rest over (is_unterminated form i rest) refl
+  by_line (failed fault) cause = (upcoming, cause, after fault)
 
--- the rows end, or one is due
+-- the rows end, or one is expected
 by_end_before : (form : StripForm) (i : ℕ) (before : Option StripFault) (reference : List Colour) (b : List Bool)
-    (row : RowsAndEnd) (end : RowsEnd) → EndsSo form.coding i b None end → i < form.rows
-    → (IsRowDue form i b → Are form i before reference b row) → Are form i before reference b (end_or_row end row)
+    (row : RowsAndEnd) (end : RowsEnd) → RowsEndAs form.coding i b None end → i < form.rows
+    → (HasNextRow form i b → Are form i before reference b row) → Are form i before reference b (end_or_row end row)
 by_end_before form i before reference b row Marked ends low later = (ends, λ many. cc)
 by_end_before form i before reference b row DataEnd ends low later = (ends, λ many. cc)
 by_end_before form i before reference b row (Fault fault) ends low later = absurd (let none = ends.2 in cc)
@@ -104,8 +106,8 @@ left_are zero form i before reference b count = (end_is form.coding i b None, λ
 left_are (suc n) form i before reference b count =
     by_end_before form i before reference b _ (rows_end form.coding i b None) (end_is form.coding i b None)
     (omega (arith, count))
-    (λ due. by_line n form i before reference b
-    (λ before row rest. salvage_uncounted n form (i + 1) before row rest) count due
+    (λ upcoming. by_line n form i before reference b
+    (λ before row rest. salvage_uncounted n form (i + 1) before row rest) count upcoming
     (λ before row rest. left_are n form (i + 1) before row rest (omega (arith, count)))
     (read_over form i before reference b) (over_is form i before reference b))
 
@@ -120,47 +122,47 @@ ended_of form i b row TooMany low ended = absurd (omega (arith, low, ended.1 ref
 -- what follows a lost row
 after_of : (n : ℕ) (form : StripForm) (i : ℕ) (b : List Bool) (fault : StripFault) (rows : List SalvagedRow)
     (end : RowsEnd) → i + suc n ≡ form.rows
-    → ((due : List Bool) → AreLeftUncounted form (i + 1) (Some fault) (white_row form.width) due rows end
-    → salvage_uncounted n form (i + 1) (Some fault) (white_row form.width) due ≡ (rows, end))
+    → ((upcoming : List Bool) → AreLeftUncounted form (i + 1) (Some fault) (white_row form.width) upcoming rows end
+    → salvage_uncounted n form (i + 1) (Some fault) (white_row form.width) upcoming ≡ (rows, end))
     → GoesOn form i b fault (rows, end)
     → uncounted_after_lost n form i b (λ before row rest. salvage_uncounted n form (i + 1) before row rest) fault
     ≡ (rows, end)
 after_of n form i b fault rows end count later (from, sought, after) =
-    ap (λ (f : List Bool). uncounted_from_eol n form (more n) fault (next_due form.coding f))
-    sought ∙ by n count later (next_due form.coding from) refl after
+    ap (λ (f : List Bool). uncounted_from_eol n form (more n) fault (resync_point form.coding f))
+    sought ∙ by n count later (resync_point form.coding from) refl after
   where
     more : ℕ → More
     more m before row rest = salvage_uncounted m form (i + 1) before row rest
 
     by : (m : ℕ) → i + suc m ≡ form.rows
-        → ((due : List Bool) → AreLeftUncounted form (i + 1) (Some fault) (white_row form.width) due rows end
-        → salvage_uncounted m form (i + 1) (Some fault) (white_row form.width) due ≡ (rows, end))
-        → (o : Option (List Bool)) → next_due form.coding from ≡ o
-        → ((((next_due form.coding from ≡ None) ⊎ (i + 1 ≡ form.rows)) × (rows ≡ []) × (end ≡ Fault fault))
-        ⊎ ((due : List Bool) × (next_due form.coding from ≡ Some due) × (i + 1 < form.rows)
-        × AreLeftUncounted form (i + 1) (Some fault) (white_row form.width) due rows end))
+        → ((upcoming : List Bool) → AreLeftUncounted form (i + 1) (Some fault) (white_row form.width) upcoming rows end
+        → salvage_uncounted m form (i + 1) (Some fault) (white_row form.width) upcoming ≡ (rows, end))
+        → (o : Option (List Bool)) → resync_point form.coding from ≡ o
+        → ((((resync_point form.coding from ≡ None) ⊎ (i + 1 ≡ form.rows)) × (rows ≡ []) × (end ≡ Fault fault))
+        ⊎ ((upcoming : List Bool) × (resync_point form.coding from ≡ Some upcoming) × (i + 1 < form.rows)
+        × AreLeftUncounted form (i + 1) (Some fault) (white_row form.width) upcoming rows end))
         → uncounted_from_eol m form (more m) fault o ≡ (rows, end)
     by zero count later o at (inl (_, none, ends)) = cc (none, ends)
-    by zero count later o at (inr (due, some, low, are)) = absurd (omega (arith, count, low))
+    by zero count later o at (inr (upcoming, some, low, are)) = absurd (omega (arith, count, low))
     by (suc m) count later None at (inl (_, none, ends)) = cc (none, ends)
-    by (suc m) count later (Some due) at (inl (inl no_due, none, ends)) = absurd (cc (at, no_due))
-    by (suc m) count later (Some due) at (inl (inr last, none, ends)) = absurd (omega (arith, count, last))
-    by (suc m) count later None at (inr (due, some, low, are)) = absurd (cc (at, some))
-    by (suc m) count later (Some other) at (inr (due, some, low, are)) =
-        let same : Some due ≡ Some other = sym some ∙ at in
-        let is : due ≡ other = cc same in
+    by (suc m) count later (Some upcoming) at (inl (inl no_due, none, ends)) = absurd (cc (at, no_due))
+    by (suc m) count later (Some upcoming) at (inl (inr last, none, ends)) = absurd (omega (arith, count, last))
+    by (suc m) count later None at (inr (upcoming, some, low, are)) = absurd (cc (at, some))
+    by (suc m) count later (Some other) at (inr (upcoming, some, low, are)) =
+        let same : Some upcoming ≡ Some other = sym some ∙ at in
+        let is : upcoming ≡ other = cc same in
         later other (subst (λ d. AreLeftUncounted form (i + 1) (Some fault) (white_row form.width) d rows
         end) is are)
 
--- a row that is due is read
+-- the next row is read
 due_of : (n : ℕ) (form : StripForm) (i : ℕ) (before : Option StripFault) (reference : List Colour) (b : List Bool)
-    (r : Line) → IsRowDue form i b → read_over form i before reference b ≡ r
+    (r : Line) → HasNextRow form i b → read_over form i before reference b ≡ r
     → salvage_uncounted (suc n) form i before reference b
     ≡ uncounted_row n form i b (λ before row rest. salvage_uncounted n form (i + 1) before row rest) r
-due_of n form i before reference b r due is =
+due_of n form i before reference b r upcoming is =
     let more : More = λ before row rest. salvage_uncounted n form (i + 1) before row rest in
     ap (λ end. end_or_row end (uncounted_row n form i b more (read_over form i before reference b)))
-    (end_of form.coding i b None TooMany (due.1, due.2, refl))
+    (end_of form.coding i b None TooMany (upcoming.1, upcoming.2, refl))
     ∙ ap (uncounted_row n form i b more) is
 
 pub left_of : (n : ℕ) (form : StripForm) (i : ℕ) (before : Option StripFault) (reference : List Colour)
@@ -177,22 +179,22 @@ left_of (suc n) form i before reference b [] end count are =
     let row = uncounted_row n form i b more (read_over form i before reference b) in
     ap (λ ends. end_or_row ends row) (end_of form.coding i b None end are.0)
     ∙ ended_of form i b row end (omega (arith, count)) are
-left_of (suc n) form i before reference b (found row ∷ rows) end count (rest, due, over, ended, are) =
+left_of (suc n) form i before reference b (found row ∷ rows) end count (rest, upcoming, over, ended, are) =
     let more : More = λ before row rest. salvage_uncounted n form (i + 1) before row rest in
-    let none = is_false (lacks_eol form i rest) (λ is. let missing = lacks_where form i rest is in
+    let none = is_false (is_unterminated form i rest) (λ is. let missing = lacks_where form i rest is in
     ended missing.0 missing.1) in
-    due_of n form i before reference b (read row rest) due (over_of form i before reference b row rest over)
+    due_of n form i before reference b (read row rest) upcoming (over_of form i before reference b row rest over)
     ∙ ap (λ missing. if missing then before_rows (unended row) (uncounted_after_lost n form i b more MissingEol)
     else before_rows (found row) (more None row rest)) none
     ∙ ap (before_rows (found row)) (left_of n form (i + 1) None row rest rows end (omega (arith, count)) are)
-left_of (suc n) form i before reference b (lost fault ∷ rows) end count (due, is, after) =
-    due_of n form i before reference b (failed fault) due (lost_of form i before reference b fault is)
+left_of (suc n) form i before reference b (lost fault ∷ rows) end count (upcoming, is, after) =
+    due_of n form i before reference b (failed fault) upcoming (lost_of form i before reference b fault is)
     ∙ ap (before_rows (lost fault)) (after_of n form i b fault rows end count
     (λ at are. left_of n form (i + 1) (Some fault) (white_row form.width) at rows end (omega (arith, count)) are)
     after)
-left_of (suc n) form i before reference b (unended row ∷ rows) end count (rest, due, over, eol, below, after) =
+left_of (suc n) form i before reference b (unended row ∷ rows) end count (rest, upcoming, over, eol, below, after) =
     let more : More = λ before row rest. salvage_uncounted n form (i + 1) before row rest in
-    due_of n form i before reference b (read row rest) due (over_of form i before reference b row rest over)
+    due_of n form i before reference b (read row rest) upcoming (over_of form i before reference b row rest over)
     ∙ ap (λ missing. if missing then before_rows (unended row) (uncounted_after_lost n form i b more MissingEol)
     else before_rows (found row) (more None row rest)) (lacks form i rest eol below)
     ∙ ap (before_rows (unended row)) (after_of n form i b MissingEol rows end count

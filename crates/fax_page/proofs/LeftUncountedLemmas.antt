@@ -1,4 +1,4 @@
--- Damaged rows that nobody counted are gone through row by row.
+-- Damaged rows of a strip of unknown height are gone through row by row.
 use Rattle.std.proofs.Common.{◌≡◌, ℕ, ◌+◌, ◌-◌, ◌<◌, ◌≤◌, List, [], ◌∷◌, Bool, Option, Some, None, Ok, Err, refl, sym}
 use Rattle.std.proofs.Common.{ap, ◌∙◌, subst, arith, inl, inr, ◌++◌, length, append_assoc, append-nil}
 use Rattle.std.specs.Prelude.{◌⊎◌, ◌≢◌, MatchOption}
@@ -6,29 +6,29 @@ use Rattle.std.proofs.lemmas.Bool.{cases_lt}
 use Rattle.std.proofs.lemmas.List.{length_push}
 use Rattle.fax_page.specs.declared.StripFault.TheVariants.{MissingEol}
 use Rattle.fax_page.specs.declared.salvage_reader.Salvaged.{Salvaged}
-use Rattle.fax_page.specs.declared.salvage_reader.Salvaged.TheVariants.{Found, Lost, Unended}
+use Rattle.fax_page.specs.declared.salvage_reader.Salvaged.TheVariants.{Found, Lost, Unterminated}
 use Rattle.fax_page.specs.Lines.{StripFault, StripForm, white_row}
 use Rattle.fax_page.specs.Strip.{most_rows}
-use Rattle.fax_page.specs.Uncounted.{EndsSo, Fault, RowsEnd, TooMany}
-use Rattle.fax_page.specs.Salvage.{SalvagedRow, found, lost, next_due, unended}
-use Rattle.fax_page.specs.LeftUncounted.{AreLeftUncounted, GoesOnUncounted, IsRowDue}
+use Rattle.fax_page.specs.Uncounted.{RowsEndAs, Fault, RowsEnd, TooMany}
+use Rattle.fax_page.specs.Salvage.{SalvagedRow, found, lost, resync_point, unended}
+use Rattle.fax_page.specs.LeftUncounted.{AreLeftUncounted, ResumesUncounted, HasNextRow}
 use Rattle.fax_page.specs.views.Salvage.{IsAfterLost, IsSalvageStep, SalvageState}
 use Rattle.fax_page.specs.views.LeftUncounted.{AreLeftFrom, IsUncountedStep, PassesAll, PassesUncounted}
 use Rattle.fax_page.specs.views.LeftUncounted.{UncountedState}
 use Rattle.fax_page.specs.code.LeftUncounted.{HasPassed, IsGoingThrough, IsOverAfter, alone, fault_of}
 
--- the row that is due is one of the strip, and the rows do not end before it
+-- the next row is one of the strip, and the rows do not end before it
 pub is_due : (strip : SalvageState) (salvaged : Salvaged) (new : SalvageState) (end : RowsEnd)
-    → EndsSo strip.form.coding strip.row strip.due None end → end ≡ TooMany
-    → IsSalvageStep strip (Some salvaged) new → IsRowDue strip.form strip.row strip.due
-is_due strip Found new end ends many step = let none = rw many at ends in (step.due, none.0, none.1)
+    → RowsEndAs strip.form.coding strip.row strip.upcoming None end → end ≡ TooMany
+    → IsSalvageStep strip (Some salvaged) new → HasNextRow strip.form strip.row strip.upcoming
+is_due strip Found new end ends many step = let none = rw many at ends in (step.upcoming, none.0, none.1)
 is_due strip (Lost fault rows) new end ends many step = let none = rw many at ends in (step.0, none.0, none.1)
-is_due strip (Unended rows) new end ends many step =
+is_due strip (Unterminated rows) new end ends many step =
     let none = rw many at ends in
     (omega (arith, step.3.1), none.0, none.1)
 
 module _ (strip new : SalvageState) (row : ℕ) (over : Option StripFault) (row_is : row ≡ strip.row)
-    (most : strip.form.rows ≡ most_rows) (due : IsRowDue strip.form strip.row strip.due) where
+    (most : strip.form.rows ≡ most_rows) (upcoming : HasNextRow strip.form strip.row strip.upcoming) where
   abbrev old_state : UncountedState
   old_state = record { strip = strip; row = row; over = None }
 
@@ -39,13 +39,13 @@ module _ (strip new : SalvageState) (row : ℕ) (over : Option StripFault) (row_
   abbrev pub IsOver : Option StripFault → Type 0
   IsOver fault = ((new.row ≡ most_rows) × (over ≡ fault)) ⊎ ((new.row ≢ most_rows) × (over ≡ None))
 
-  -- after a lost row, what is left goes on, or ends with its fault
+  -- after a lost row, what is left continues, or ends with its fault
   goes_on : (fault : StripFault) (count : ℕ) → IsAfterLost strip fault count new → IsOver (Some fault)
       → (rows : List SalvagedRow) (end : RowsEnd) → AreLeftFrom new_state rows end
-      → GoesOnUncounted strip.form strip.row strip.due fault
+      → ResumesUncounted strip.form strip.row strip.upcoming fault
       (λ at. AreLeftUncounted strip.form (strip.row + 1) (Some fault) (white_row strip.form.width) at rows end) rows end
   goes_on fault count (from, sought, after) is_over rows end are =
-      (from, sought, at_due (next_due strip.form.coding from) after is_over)
+      (from, sought, at_due (resync_point strip.form.coding from) after is_over)
     where
       After : Option (List Bool) → Type 0
       After o =
@@ -54,7 +54,7 @@ module _ (strip new : SalvageState) (row : ℕ) (over : Option StripFault) (row_
           (λ at. (count ≡ 1) × (new ≡ record {
             form = strip.form;
             row = strip.row + 1;
-            due = at;
+            upcoming = at;
             reference = white_row strip.form.width;
             before = Some fault;
           }))
@@ -77,17 +77,17 @@ module _ (strip new : SalvageState) (row : ℕ) (over : Option StripFault) (row_
           inl (inr (sym row_next ∙ last ∙ sym most), e.0, e.1)
       at_due (Some at) one (inr (more, over_is)) =
           let row_next : new.row ≡ strip.row + 1 = ap (λ (s : SalvageState). s.row) one.1 in
-          let left = rw (over_is, one.1) at are in
-          inr (at, refl, low row_next more, rw row_is at left)
+          let remaining = rw (over_is, one.1) at are in
+          inr (at, refl, low row_next more, rw row_is at remaining)
         where
           low : new.row ≡ strip.row + 1 → new.row ≢ most_rows → strip.row + 1 < strip.form.rows
           low row_next more = elim (cases_lt (strip.row + 1) strip.form.rows) [
             | inl below ↦ below
-            | inr last ↦ absurd (more (omega (arith, row_next, last, due.0, most)))
+            | inr last ↦ absurd (more (omega (arith, row_next, last, upcoming.0, most)))
           ]
 
   form_after : (fault : StripFault) (count : ℕ) → IsAfterLost strip fault count new → new.form ≡ strip.form
-  form_after fault count (from, sought, after) = at_due (next_due strip.form.coding from) after
+  form_after fault count (from, sought, after) = at_due (resync_point strip.form.coding from) after
     where
       at_due : (o : Option (List Bool))
           → MatchOption o
@@ -95,7 +95,7 @@ module _ (strip new : SalvageState) (row : ℕ) (over : Option StripFault) (row_
           (λ at. (count ≡ 1) × (new ≡ record {
             form = strip.form;
             row = strip.row + 1;
-            due = at;
+            upcoming = at;
             reference = white_row strip.form.width;
             before = Some fault;
           })) → new.form ≡ strip.form
@@ -106,12 +106,12 @@ module _ (strip new : SalvageState) (row : ℕ) (over : Option StripFault) (row_
   pub same_after : (salvaged : Salvaged) → IsSalvageStep strip (Some salvaged) new → new.form ≡ strip.form
   same_after Found finds = ap (λ (s : SalvageState). s.form) finds.new_is
   same_after (Lost fault count) step = form_after fault count step.2
-  same_after (Unended count) step = form_after MissingEol count step.5
+  same_after (Unterminated count) step = form_after MissingEol count step.5
 
   in_form : new.form ≡ strip.form → row + 1 ≤ new.form.rows
   in_form same =
       let rows : new.form.rows ≡ strip.form.rows = ap (λ (f : StripForm). f.rows) same in
-      omega (arith, rows, row_is, due.0)
+      omega (arith, rows, row_is, upcoming.0)
 
   -- a row is passed
   pub passes : (salvaged : Salvaged) → IsSalvageStep strip (Some salvaged) new → IsOver (fault_of salvaged)
@@ -122,7 +122,7 @@ module _ (strip new : SalvageState) (row : ℕ) (over : Option StripFault) (row_
     within = in_form form_same;
     followed = λ rows end are.
         let own = rw (no_fault is_over, form_same, none, row_is) at are in
-        rw row_is (new.due, due, finds.read, finds.ended, own);
+        rw row_is (new.upcoming, upcoming, finds.read, finds.ended, own);
   }
     where
       form_same : new.form ≡ strip.form
@@ -140,10 +140,10 @@ module _ (strip new : SalvageState) (row : ℕ) (over : Option StripFault) (row_
       same_form = form_after fault count after;
       next = refl;
       within = in_form (form_after fault count after);
-      followed = λ rows end are. rw row_is (due, is, goes_on fault count after is_over rows end are);
+      followed = λ rows end are. rw row_is (upcoming, is, goes_on fault count after is_over rows end are);
     },
   )
-  passes (Unended count) (pels, rest, read, eol, below, after) is_over = (
+  passes (Unterminated count) (pels, rest, read, eol, below, after) is_over = (
     pels,
     refl,
     record {
@@ -151,11 +151,11 @@ module _ (strip new : SalvageState) (row : ℕ) (over : Option StripFault) (row_
       next = refl;
       within = in_form (form_after MissingEol count after);
       followed = λ rows end are.
-          rw row_is (rest, due, read, eol, below, goes_on MissingEol count after is_over rows end are);
+          rw row_is (rest, upcoming, read, eol, below, goes_on MissingEol count after is_over rows end are);
     },
   )
 
-  -- as it is answered
+  -- as it is returned
   pub passes_so : (old : UncountedState) (before : Option StripFault) (answer salvaged : Salvaged)
       → old ≡ record { strip = strip; row = row; over = before } → before ≡ None → answer ≡ alone salvaged
       → IsSalvageStep strip (Some salvaged) new → IsOver (fault_of salvaged)
@@ -175,12 +175,12 @@ pub still_going : (strip new : SalvageState) (row : ℕ) (salvaged : Salvaged) (
 still_going strip new row salvaged over most row_is step same low is_over = record {
   most = ap (λ (f : StripForm). f.rows) same ∙ most;
   few = omega (arith, row_is, low, most);
-  due = by_step salvaged step is_over;
+  upcoming = by_step salvaged step is_over;
 }
   where
     next_is : (fault : StripFault) (count : ℕ) → IsAfterLost strip fault count new → new.row ≢ most_rows
         → row + 1 ≡ new.row
-    next_is fault count (from, sought, after) more = at_due (next_due strip.form.coding from) after
+    next_is fault count (from, sought, after) more = at_due (resync_point strip.form.coding from) after
       where
         at_due : (o : Option (List Bool))
             → MatchOption o
@@ -188,7 +188,7 @@ still_going strip new row salvaged over most row_is step same low is_over = reco
             (λ at. (count ≡ 1) × (new ≡ record {
               form = strip.form;
               row = strip.row + 1;
-              due = at;
+              upcoming = at;
               reference = white_row strip.form.width;
               before = Some fault;
             })) → row + 1 ≡ new.row
@@ -204,8 +204,8 @@ still_going strip new row salvaged over most row_is step same low is_over = reco
         omega (arith, row_is, next)
     by_step (Lost fault count) step (inl last) none = let some = sym last.1 ∙ none in cc
     by_step (Lost fault count) step (inr more) none = next_is fault count step.2 more.0
-    by_step (Unended count) step (inl last) none = let some = sym last.1 ∙ none in cc
-    by_step (Unended count) step (inr more) none = next_is MissingEol count step.5 more.0
+    by_step (Unterminated count) step (inl last) none = let some = sym last.1 ∙ none in cc
+    by_step (Unterminated count) step (inr more) none = next_is MissingEol count step.5 more.0
 
 -- ---- row after row
 
@@ -225,7 +225,7 @@ module _ (old now new : UncountedState) (passed : HasPassed old now) where
   pub passed_more : (salvaged : Salvaged) → IsUncountedStep now (Ok salvaged) new → HasPassed old new
   passed_more Found step = one_more (found new.strip.reference) step
   passed_more (Lost fault rows) step = one_more (lost fault) step.1
-  passed_more (Unended rows) step = one_more (unended step.0) step.2
+  passed_more (Unterminated rows) step = one_more (unended step.0) step.2
 
   pub all_passed : (end : RowsEnd) → IsUncountedStep now (Err end) new → PassesAll old end new
   all_passed end (are, same) = record {

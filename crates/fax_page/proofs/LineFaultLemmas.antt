@@ -18,13 +18,14 @@ pub in_codes : (form : StripForm) (i : ℕ) (reference : List Colour) (b : List 
     → IsLineStop form i reference b (Codes cause) → (dimension : Dimension) (codes : List Bool)
     → IsStart form.coding i b (read dimension codes) → (fault : StripFault) → IsStop codes cause fault
     → IsCause form i reference b fault
-in_codes form i reference b cause (first, others, begun, stops) dimension codes again fault stop =
-    let same = one_begun form.coding i b first dimension others codes begun again in
+in_codes form i reference b cause (first, others, origin, stops) dimension codes again fault stop =
+    let same = one_begun form.coding i b first dimension others codes origin again in
     cause_in_codes form i reference b dimension codes cause fault again stop (rw (same.0, same.1) at stops)
 
 -- a source that is made anew has the bits of the one that stood there
 pub bits_again : (order : FillOrder) (bytes : List ℕ) (place : ℕ) (first again there : Source)
     → first ≡ source_of order bytes 0
-    → again ≡ record { left = drop place first.left; place = first.place + place } → there ≡ source_of order bytes place
-    → there.left ≡ again.left
+    → again ≡ record { remaining = drop place first.remaining; place = first.place + place } → there
+    ≡ source_of order bytes place
+    → there.remaining ≡ again.remaining
 bits_again order bytes place first again there begins skips stands = grind arith

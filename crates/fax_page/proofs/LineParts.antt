@@ -7,7 +7,7 @@ use Rattle.std.proofs.lemmas.Bool.{cases_lt}
 use Rattle.std.proofs.lemmas.List.{length-replicate}
 use Rattle.std.proofs.lemmas.Bool.Decides.{nat_tests}
 use Rattle.fax_bits.specs.declared.Colour.{Colour}
-use Rattle.fax_bits.specs.Bits.{BeginsWith}
+use Rattle.fax_bits.specs.Bits.{StartsWith}
 use Rattle.fax_bits.specs.Codes.{after_front}
 use Rattle.fax_bits.specs.Reading.{Read, read, failed, ◌>>=◌, map_fault}
 use Rattle.fax_bits.proofs.CodeLemmas.{front_is}
@@ -24,10 +24,10 @@ use Rattle.fax_page.proofs.StartLaws.{by_next, eol_is, none_at}
 use Rattle.fax_page.proofs.StartLemmas.{eleven_ahead, eleven_alone}
 
 -- eleven zeros where a row's first code is next
-no_front : (front b : List Bool) → (BeginsWith b front → ⊥) → after_front front b ≡ None
+no_front : (front b : List Bool) → (StartsWith b front → ⊥) → after_front front b ≡ None
 no_front front b none = by (after_front front b) (front_is front b)
   where
-    by : (r : Option (List Bool)) → MatchOption r (BeginsWith b front → ⊥) (λ rest. b ≡ front ++ rest) → r ≡ None
+    by : (r : Option (List Bool)) → MatchOption r (StartsWith b front → ⊥) (λ rest. b ≡ front ++ rest) → r ≡ None
     by None is = refl
     by (Some rest) is = absurd (none (rest, is))
 
@@ -68,7 +68,7 @@ first_is : (b : List Bool) → IsFirst b (check_first b)
 first_is b = by (after_front (replicate 11 false) b) (next_one 0 b) (front_is (replicate 11 false) b) refl
   where
     by : (r : Option (List Bool)) (one : NextOne)
-        → MatchOption r (BeginsWith b (replicate 11 false) → ⊥) (λ rest. b ≡ replicate 11 false ++ rest)
+        → MatchOption r (StartsWith b (replicate 11 false) → ⊥) (λ rest. b ≡ replicate 11 false ++ rest)
         → next_one 0 b ≡ one → IsFirst b (first_bits r one b)
     by (Some after) one is at = inl (after, is, refl)
     by None in_code none at = (at, refl)

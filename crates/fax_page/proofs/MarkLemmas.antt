@@ -11,15 +11,15 @@ use Rattle.std.proofs.lemmas.Bool.{cases_lt}
 use Rattle.std.proofs.lemmas.List.{replicate-append-replicate, take-append-drop, take-append-le}
 use Rattle.std.proofs.lemmas.Nat.{mod_below, pow_pos, shr_below, shr_split}
 use Rattle.fax_bits.proofs.CodeBitsLemmas.{code_bits-add, length-code_bits}
-use Rattle.fax_bits.specs.Bits.{IsAllZeros, BeginsWith, code_bits}
+use Rattle.fax_bits.specs.Bits.{IsAllZeros, StartsWith, code_bits}
 use Rattle.fax_bits.specs.views.Source.{IsTaken}
 use Rattle.fax_page.specs.declared.Coding.{Coding}
 use Rattle.fax_page.specs.declared.Coding.TheVariants.{Mh, Mr, Mmr}
 use Rattle.fax_page.specs.declared.StripFault.{StripFault}
 use Rattle.fax_page.specs.declared.StripFault.TheVariants.{DataEnds}
-use Rattle.fax_page.specs.declared.uncounted.MarkEol.TheVariants.{Cut, Other, Whole}
+use Rattle.fax_page.specs.declared.uncounted.RtcEol.TheVariants.{Cut, Other, Whole}
 use Rattle.fax_page.specs.Lines.{not_there}
-use Rattle.fax_page.specs.Strip.{AreReturnEols, IsReturnEol, end_bits, end_of_line}
+use Rattle.fax_page.specs.Strip.{AreRtcEols, IsRtcEol, end_bits, eol_bits}
 use Rattle.fax_page.specs.Uncounted.{MayHaveEndMark}
 use Rattle.fax_page.specs.code.Notes.{AreEolsTaken, IsMarkEol, MayHaveReturn}
 use Rattle.fax_page.specs.code.Starts.{HasEol, HasNoEol}
@@ -29,9 +29,9 @@ use Rattle.fax_page.proofs.FollowingLaws.{below_stays, eol_stays}
 use Rattle.fax_page.proofs.StartLaws.{by_next, eol_at, eol_is_not_below, same_eol}
 
 -- zeros and an EOL are one
-zeros_and_eol : (b rest : List Bool) → IsAllZeros b → IsEndOfLine (b ++ (end_of_line ++ rest)) rest
+zeros_and_eol : (b rest : List Bool) → IsAllZeros b → IsEndOfLine (b ++ (eol_bits ++ rest)) rest
 zeros_and_eol b rest all =
-    eol_at _ rest (all.0 + 11) (omega arith) (ap (λ c. c ++ (end_of_line ++ rest)) all.1
+    eol_at _ rest (all.0 + 11) (omega arith) (ap (λ c. c ++ (eol_bits ++ rest)) all.1
     ∙ sym (append_assoc (replicate all.0 false) (replicate 11 false) (true ∷ rest))
     ∙ ap (λ c. c ++ true ∷ rest) (replicate-append-replicate all.0 11 false))
 
@@ -39,9 +39,9 @@ zeros_and_eol b rest all =
 pub cut_before : (coding : Coding) (b rest : List Bool) (fault : StripFault) → coding ≢ Mmr → HasNoEol false b fault
     → fault ≡ DataEnds → IsMarkEol coding b Cut rest
 cut_before Mh b rest fault other (inl (none, ends)) is =
-    (end_of_line, zeros_and_eol b [] (by_next b not_there none))
+    (eol_bits, zeros_and_eol b [] (by_next b not_there none))
 cut_before Mr b rest fault other (inl (none, ends)) is =
-    (end_of_line ++ true ∷ [], zeros_and_eol b (true ∷ []) (by_next b not_there none))
+    (eol_bits ++ true ∷ [], zeros_and_eol b (true ∷ []) (by_next b not_there none))
 cut_before Mmr b rest fault other none is = absurd (other refl)
 cut_before coding b rest fault other (inr (lacks, below, missing)) is = absurd (cc (missing, is))
 
@@ -82,31 +82,31 @@ other_tag Mh b after rest is eol some none = absurd (cc is)
 other_tag Mmr b after rest is eol some none = absurd (cc is)
 
 -- EOLs and then others
-eols_on : (coding : Coding) (i n : ℕ) (b middle rest : List Bool) → AreReturnEols coding i b middle
-    → AreReturnEols coding n middle rest → AreReturnEols coding (i + n) b rest
+eols_on : (coding : Coding) (i n : ℕ) (b middle rest : List Bool) → AreRtcEols coding i b middle
+    → AreRtcEols coding n middle rest → AreRtcEols coding (i + n) b rest
 eols_on coding zero n b middle rest first more =
-    subst (λ k. AreReturnEols coding k b rest) count (subst (λ c. AreReturnEols coding n c rest) (sym first) more)
+    subst (λ k. AreRtcEols coding k b rest) count (subst (λ c. AreRtcEols coding n c rest) (sym first) more)
   where
     count : n ≡ 0 + n
     count = omega arith
 eols_on coding (suc i) n b middle rest (after, eol, eols) more =
-    subst (λ k. AreReturnEols coding k b rest) count (after, eol, eols_on coding i n after middle rest eols more)
+    subst (λ k. AreRtcEols coding k b rest) count (after, eol, eols_on coding i n after middle rest eols more)
   where
     count : suc (i + n) ≡ suc i + n
     count = omega arith
 
 -- the others of them
-eols_back : (coding : Coding) (i n : ℕ) (b middle rest : List Bool) → AreReturnEols coding i b middle
-    → AreReturnEols coding (i + n) b rest → AreReturnEols coding n middle rest
+eols_back : (coding : Coding) (i n : ℕ) (b middle rest : List Bool) → AreRtcEols coding i b middle
+    → AreRtcEols coding (i + n) b rest → AreRtcEols coding n middle rest
 eols_back coding zero n b middle rest first all =
-    subst (λ c. AreReturnEols coding n c rest) first (subst (λ k. AreReturnEols coding k b rest) count all)
+    subst (λ c. AreRtcEols coding n c rest) first (subst (λ k. AreRtcEols coding k b rest) count all)
   where
     count : 0 + n ≡ n
     count = omega arith
 eols_back coding (suc i) n b middle rest (after, eol, eols) all =
-    let (next, other, others) = subst (λ k. AreReturnEols coding k b rest) count all in
+    let (next, other, others) = subst (λ k. AreRtcEols coding k b rest) count all in
     eols_back coding i n after middle rest eols
-    (subst (λ c. AreReturnEols coding (i + n) c rest) (same_return_eol coding b next after other eol) others)
+    (subst (λ c. AreRtcEols coding (i + n) c rest) (same_return_eol coding b next after other eol) others)
   where
     count : suc i + n ≡ suc (i + n)
     count = omega arith
@@ -114,10 +114,10 @@ eols_back coding (suc i) n b middle rest (after, eol, eols) all =
 -- so many EOLs of a return to control
 abbrev mark_eols : Coding → ℕ → List Bool
 mark_eols coding zero = []
-mark_eols Mr (suc n) = end_of_line ++ true ∷ mark_eols Mr n
-mark_eols coding (suc n) = end_of_line ++ mark_eols coding n
+mark_eols Mr (suc n) = eol_bits ++ true ∷ mark_eols Mr n
+mark_eols coding (suc n) = eol_bits ++ mark_eols coding n
 
-eols_are : (coding : Coding) (n : ℕ) → coding ≢ Mmr → AreReturnEols coding n (mark_eols coding n) []
+eols_are : (coding : Coding) (n : ℕ) → coding ≢ Mmr → AreRtcEols coding n (mark_eols coding n) []
 eols_are coding zero other = refl
 eols_are Mh (suc n) other = (mark_eols Mh n, refl, eols_are Mh n other)
 eols_are Mr (suc n) other = (mark_eols Mr n, refl, eols_are Mr n other)
@@ -125,44 +125,44 @@ eols_are Mmr (suc n) other = absurd (other refl)
 
 module _ (coding : Coding) (other : coding ≢ Mmr) (b ahead : List Bool) (i : ℕ)
     (taken : AreEolsTaken coding b i ahead) where
-  stand : AreReturnEols coding i b ahead
-  stand = subst (λ k. AreReturnEols coding k b ahead) count (taken.onward 0 ahead refl)
+  stand : AreRtcEols coding i b ahead
+  stand = subst (λ k. AreRtcEols coding k b ahead) count (taken.onward 0 ahead refl)
     where
       count : i + 0 ≡ i
       count = omega arith
 
   -- the rest of a return to control may follow
   pub may_go_on : i < 6 → (rest : List Bool) → IsMarkEol coding ahead Cut rest → MayHaveReturn coding b
-  may_go_on due rest (more, eol) =
+  may_go_on upcoming rest (more, eol) =
       let eols = mark_eols coding (5 - i) in
-      let after : AreReturnEols coding (suc (5 - i)) (ahead ++ (more ++ eols)) [] = (
+      let after : AreRtcEols coding (suc (5 - i)) (ahead ++ (more ++ eols)) [] = (
         eols,
-        subst (λ c. IsReturnEol coding c eols) (append_assoc ahead more eols)
+        subst (λ c. IsRtcEol coding c eols) (append_assoc ahead more eols)
             (return_eol_stays coding (ahead ++ more) [] eols eol),
         eols_are coding (5 - i) other,
       ) in
-      let count : i + suc (5 - i) ≡ 6 = omega (arith, due) in (
+      let count : i + suc (5 - i) ≡ 6 = omega (arith, upcoming) in (
         more ++ eols,
         [],
-        subst (λ k. AreReturnEols coding k (b ++ (more ++ eols)) []) count
+        subst (λ k. AreRtcEols coding k (b ++ (more ++ eols)) []) count
             (eols_on coding i (suc (5 - i)) (b ++ (more ++ eols)) (ahead ++ (more ++ eols)) []
             (eols_stay coding i b ahead (more ++ eols) stand) after),
       )
 
   -- or none is there, whatever follows
   pub never_goes_on : i < 6 → (rest : List Bool) → IsMarkEol coding ahead Other rest → MayHaveReturn coding b → ⊥
-  never_goes_on due rest none (more, last, eols) =
-      let count : 6 ≡ i + suc (5 - i) = omega (arith, due) in
+  never_goes_on upcoming rest none (more, last, eols) =
+      let count : 6 ≡ i + suc (5 - i) = omega (arith, upcoming) in
       let found = eols_back coding i (suc (5 - i)) (b ++ more) (ahead ++ more) last
-      (eols_stay coding i b ahead more stand) (subst (λ k. AreReturnEols coding k (b ++ more) last) count eols) in
+      (eols_stay coding i b ahead more stand) (subst (λ k. AreRtcEols coding k (b ++ more) last) count eols) in
       none more found.0 found.1
 
   pub all_there : i ≡ 6 → MayHaveReturn coding b
   all_there all = (
     [],
     ahead,
-    subst (λ c. AreReturnEols coding 6 c ahead) (sym (append-nil b))
-        (subst (λ k. AreReturnEols coding k b ahead) all stand),
+    subst (λ c. AreRtcEols coding 6 c ahead) (sym (append-nil b))
+        (subst (λ k. AreRtcEols coding k b ahead) all stand),
   )
 
 -- a return to control is the end mark of MH and MR
@@ -231,7 +231,7 @@ module _ (b : List Bool) where
             )
       ]
 
-  pub begins_block : MayHaveEndMark Mmr b → BeginsWith b (code_bits bits_there (front bits_there))
+  pub begins_block : MayHaveEndMark Mmr b → StartsWith b (code_bits bits_there (front bits_there))
   begins_block (more, (rest, is)) =
       let n = bits_there in
       let code = code_bits n (front n) in

@@ -5,7 +5,7 @@ use Rattle.std.proofs.Common.{◌++◌, length, Bool, true, false, IsTrue, refl,
 use Rattle.std.proofs.Common.{sym, ◌∙◌, subst}
 use Rattle.std.proofs.Common.{arith, append_assoc, append-nil, length-append, inl, inr, Option, Some, None}
 use Rattle.fax_bits.specs.declared.Colour.{Colour}
-use Rattle.fax_bits.specs.Bits.{BeginsWith}
+use Rattle.fax_bits.specs.Bits.{StartsWith}
 use Rattle.fax_rows.specs.laws.Rows.{HasWidth, OneDimensionalBitsAreRead, TwoDimensionalBitsAreRead}
 use Rattle.fax_page.specs.declared.Dimension.{Dimension}
 use Rattle.fax_page.specs.declared.StripForm.{StripForm}
@@ -15,11 +15,11 @@ use Rattle.fax_page.specs.declared.notes.NotesFault.TheVariants.{Memory, Strip}
 use Rattle.fax_page.specs.declared.notes.StripNotes.{StripNotes}
 use Rattle.fax_bits.specs.Reading.{read}
 use Rattle.fax_page.specs.Lines.{IsCause, IsLine, read_codes, white_row}
-use Rattle.fax_page.specs.Strip.{AreLines, row_bits, HasOtherCodes, HasOtherChoice, IsNotedAs, most_rows}
+use Rattle.fax_page.specs.Strip.{AreLines, row_bits, HasOtherCodes, HasNonCanonicalRow, IsNotedAs, most_rows}
 use Rattle.fax_page.specs.views.Strip.{IsStrip, IsNotedUncounted, IsNotesFault}
 use Rattle.fax_page.proofs.StripLaws.{EndsAt, no_rows}
 use Rattle.fax_page.proofs.UncountedLaws.{all_lines, line_of, of_rows}
-use Rattle.fax_page.specs.Uncounted.{EndsSo, uncounted}
+use Rattle.fax_page.specs.Uncounted.{RowsEndAs, uncounted}
 use Rattle.fax_page.specs.declared.notes.UncountedNotes.{UncountedNotes}
 use Rattle.fax_page.specs.laws.Strips.{ReadsLinesOneWay}
 use Rattle.fax_page.specs.code.Notes.{IsChosen}
@@ -37,7 +37,7 @@ module _ (one : OneDimensionalBitsAreRead) (two : TwoDimensionalBitsAreRead) whe
       (chosen : Bool)
       → HasWidth row → length row ≡ form.width → length reference ≡ form.width
       → read_codes dimension form.width reference codes ≡ read row rest
-      → put ≡ row_bits dimension reference row → IsTrue chosen ↔ BeginsWith codes put
+      → put ≡ row_bits dimension reference row → IsTrue chosen ↔ StartsWith codes put
       → AreCodesRead form dimension reference codes row rest chosen
   codes_read form reference row codes rest put dimension chosen fits is_width reference_width coded put_is begins =
       grind arith
@@ -63,16 +63,18 @@ module _ (reads : (form : StripForm) (i : ℕ) (reference : List Colour) → Rea
       marks now none other_choice = grind arith
 
   -- one more row: whether some row is coded otherwise is true then, where this one is
-  pub row_noted : (form : StripForm) (b left rest : List Bool) (i : ℕ) (reference row : List Colour) (other now : Bool)
-      → i < form.rows → AreRowsRead form b i reference left other → IsLineNoted form i reference left row rest other now
+  pub row_noted : (form : StripForm) (b remaining rest : List Bool) (i : ℕ) (reference row : List Colour) (other now :
+      Bool)
+      → i < form.rows → AreRowsRead form b i reference remaining other
+      → IsLineNoted form i reference remaining row rest other now
       → AreRowsRead form b (i + 1) row rest now
-  row_noted form b left rest i reference row other now due so_far noted = record {
+  row_noted form b remaining rest i reference row other now upcoming so_far noted = record {
     before = so_far.before ++ row ∷ [];
     count = omega (arith, so_far.count, length-append so_far.before (row ∷ []));
     lines = λ more end after lines.
         subst (λ rows. AreLines form 0 (white_row form.width) b rows end after)
         (sym (append_assoc so_far.before (row ∷ []) more))
-        (so_far.lines (row ∷ more) end after (rest, due, noted.line, lines));
+        (so_far.lines (row ∷ more) end after (rest, upcoming, noted.line, lines));
     found = λ is more. onto more (elim (noted.noted.found is) [
       | inl before ↦ so_far.found before (row ∷ more)
       | inr other_choice ↦ so_far.onward (row ∷ more)
@@ -80,30 +82,32 @@ module _ (reads : (form : StripForm) (i : ℕ) (reference : List Colour) → Rea
     ]);
     onward = λ more has. onto more (so_far.onward (row ∷ more) (rest, noted.line, inr has));
     back = λ more has.
-        elim (so_far.back (row ∷ more) (subst (λ rows. HasOtherChoice form 0 (white_row form.width) b rows)
+        elim (so_far.back (row ∷ more) (subst (λ rows. HasNonCanonicalRow form 0 (white_row form.width) b rows)
         (append_assoc so_far.before (row ∷ []) more) has)) [
           | inl is ↦ inl (noted.noted.kept is)
           | inr here ↦
-              let same = ((reads form i reference).line.one_answer left row row rest here.0 noted.line here.1).1 in
+              let same = ((reads form i reference).line.one_answer remaining row row rest here.0 noted.line here.1).1 in
               elim here.2 [
                 | inl other_choice ↦
-                    inl (other_codes form i reference row left rest here.0 other now noted here.1 other_choice).1
-                | inr after ↦ inr (subst (λ c. HasOtherChoice form (i + 1) row c more) (sym same) after)
+                    inl (other_codes form i reference row remaining rest here.0 other now noted here.1 other_choice).1
+                | inr after ↦ inr (subst (λ c. HasNonCanonicalRow form (i + 1) row c more) (sym same) after)
               ]
         ];
   }
     where
-      onto : (more : List (List Colour)) → HasOtherChoice form 0 (white_row form.width) b (so_far.before ++ row ∷ more)
-          → HasOtherChoice form 0 (white_row form.width) b ((so_far.before ++ row ∷ []) ++ more)
+      onto : (more : List (List Colour)) → HasNonCanonicalRow form 0 (white_row form.width) b (so_far.before ++ row
+          ∷ more)
+          → HasNonCanonicalRow form 0 (white_row form.width) b ((so_far.before ++ row ∷ []) ++ more)
       onto more has =
-          subst (λ rows. HasOtherChoice form 0 (white_row form.width) b rows)
+          subst (λ rows. HasNonCanonicalRow form 0 (white_row form.width) b rows)
           (sym (append_assoc so_far.before (row ∷ []) more)) has
 
 -- no row was read
-pub none_read : (form : StripForm) (b left : List Bool) (reference : List Colour) → reference ≡ white_row form.width
-    → left ≡ b
-    → AreRowsRead form b 0 reference left false
-none_read form b left reference white all = rw (white, all) (record {
+pub none_read : (form : StripForm) (b remaining : List Bool) (reference : List Colour) → reference
+    ≡ white_row form.width
+    → remaining ≡ b
+    → AreRowsRead form b 0 reference remaining false
+none_read form b remaining reference white all = rw (white, all) (record {
   before = [];
   count = refl;
   lines = λ more end after lines. lines;
@@ -140,41 +144,49 @@ codes_fault form i reference b codes dimension (Strip row fault) start is =
     (is.0, cause_in_codes form i reference b dimension codes is.1 fault start is.3 is.2)
 
 -- the rows so far, and an end after them
-stopped : (form : StripForm) (b left : List Bool) (i : ℕ) (reference : List Colour) (other : Bool)
+stopped : (form : StripForm) (b remaining : List Bool) (i : ℕ) (reference : List Colour) (other : Bool)
     (end : Option StripFault)
-    (so_far : AreRowsRead form b i reference left other) → EndsAt form i reference left end
-    → AreLines form 0 (white_row form.width) b so_far.before end left
-stopped form b left i reference other end so_far stop =
-    subst (λ rows. AreLines form 0 (white_row form.width) b rows end left) (append-nil so_far.before)
-    (so_far.lines [] end left (no_rows form i reference left end stop))
+    (so_far : AreRowsRead form b i reference remaining other) → EndsAt form i reference remaining end
+    → AreLines form 0 (white_row form.width) b so_far.before end remaining
+stopped form b remaining i reference other end so_far stop =
+    subst (λ rows. AreLines form 0 (white_row form.width) b rows end remaining) (append-nil so_far.before)
+    (so_far.lines [] end remaining (no_rows form i reference remaining end stop))
 
 -- a row that cannot be read
-fault_met : (form : StripForm) (b left : List Bool) (i : ℕ) (reference : List Colour) (other : Bool)
+fault_met : (form : StripForm) (b remaining : List Bool) (i : ℕ) (reference : List Colour) (other : Bool)
     (fault : StripFault) (row : ℕ)
-    → i < form.rows → AreRowsRead form b i reference left other → row ≡ i → IsCause form i reference left fault
+    → i < form.rows → AreRowsRead form b i reference remaining other → row ≡ i
+    → IsCause form i reference remaining fault
     → (rows : List (List Colour)) × (length rows ≡ row) × IsStrip form b rows (Some fault)
-fault_met form b left i reference other fault row due so_far here cause = (
+fault_met form b remaining i reference other fault row upcoming so_far here cause = (
   so_far.before,
   so_far.count ∙ sym here,
-  record { left = left; lines = stopped form b left i reference other (Some fault) so_far (due, cause) },
+  record {
+    remaining = remaining;
+    lines = stopped form b remaining i reference other (Some fault) so_far (
+      upcoming,
+      cause,
+    );
+  },
 )
 
 -- or memory was refused
-pub no_notes : (form : StripForm) (b left : List Bool) (i : ℕ) (reference : List Colour) (other : Bool)
+pub no_notes : (form : StripForm) (b remaining : List Bool) (i : ℕ) (reference : List Colour) (other : Bool)
     (fault : NotesFault)
-    → i < form.rows → AreRowsRead form b i reference left other → IsLineFault form i reference left fault
+    → i < form.rows → AreRowsRead form b i reference remaining other → IsLineFault form i reference remaining fault
     → IsNotesFault form b fault
-no_notes form b left i reference other Memory due so_far fault = tt
-no_notes form b left i reference other (Strip row fault) due so_far (here, cause) =
-    fault_met form b left i reference other fault row due so_far here cause
+no_notes form b remaining i reference other Memory upcoming so_far fault = tt
+no_notes form b remaining i reference other (Strip row fault) upcoming so_far (here, cause) =
+    fault_met form b remaining i reference other fault row upcoming so_far here cause
 
 -- the notes on rows that are all of a strip
-noted_after : (form : StripForm) (b left : List Bool) (rows : List (List Colour)) (other : Bool) (notes : StripNotes)
-    → AreLines form 0 (white_row form.width) b rows None left → AreNotesAfter form.coding left other notes
-    → (other ≡ true → HasOtherChoice form 0 (white_row form.width) b rows)
-    → (HasOtherChoice form 0 (white_row form.width) b rows → other ≡ true) → IsNotedAs form b rows notes
-noted_after form b left rows other notes lines ends found none = record {
-  left = left;
+noted_after : (form : StripForm) (b remaining : List Bool) (rows : List (List Colour)) (other : Bool) (notes :
+    StripNotes)
+    → AreLines form 0 (white_row form.width) b rows None remaining → AreNotesAfter form.coding remaining other notes
+    → (other ≡ true → HasNonCanonicalRow form 0 (white_row form.width) b rows)
+    → (HasNonCanonicalRow form 0 (white_row form.width) b rows → other ≡ true) → IsNotedAs form b rows notes
+noted_after form b remaining rows other notes lines ends found none = record {
+  remaining = remaining;
   lines = lines;
   after = ends.after;
   after_end = ends.after_end;
@@ -185,37 +197,41 @@ noted_after form b left rows other notes lines ends found none = record {
 }
 
 -- whether some row so far is coded otherwise
-other_there : (form : StripForm) (b left : List Bool) (i : ℕ) (reference : List Colour) (other : Bool)
-    (so_far : AreRowsRead form b i reference left other) → other ≡ true
-    → HasOtherChoice form 0 (white_row form.width) b so_far.before
-other_there form b left i reference other so_far is =
-    subst (λ rows. HasOtherChoice form 0 (white_row form.width) b rows) (append-nil so_far.before) (so_far.found is [])
+other_there : (form : StripForm) (b remaining : List Bool) (i : ℕ) (reference : List Colour) (other : Bool)
+    (so_far : AreRowsRead form b i reference remaining other) → other ≡ true
+    → HasNonCanonicalRow form 0 (white_row form.width) b so_far.before
+other_there form b remaining i reference other so_far is =
+    subst (λ rows. HasNonCanonicalRow form 0 (white_row form.width) b rows) (append-nil so_far.before) (so_far.found is
+    [])
 
-other_found : (form : StripForm) (b left : List Bool) (i : ℕ) (reference : List Colour) (other : Bool)
-    (so_far : AreRowsRead form b i reference left other) → HasOtherChoice form 0 (white_row form.width) b so_far.before
+other_found : (form : StripForm) (b remaining : List Bool) (i : ℕ) (reference : List Colour) (other : Bool)
+    (so_far : AreRowsRead form b i reference remaining other)
+    → HasNonCanonicalRow form 0 (white_row form.width) b so_far.before
     → other ≡ true
-other_found form b left i reference other so_far has =
-    elim (so_far.back [] (subst (λ rows. HasOtherChoice form 0 (white_row form.width) b rows)
+other_found form b remaining i reference other so_far has =
+    elim (so_far.back [] (subst (λ rows. HasNonCanonicalRow form 0 (white_row form.width) b rows)
     (sym (append-nil so_far.before)) has)) [
       | inl is ↦ is
       | inr none ↦ absurd none
     ]
 
 -- all rows were read
-pub all_noted : (form : StripForm) (b left : List Bool) (i : ℕ) (reference : List Colour) (other : Bool)
+pub all_noted : (form : StripForm) (b remaining : List Bool) (i : ℕ) (reference : List Colour) (other : Bool)
     (notes : StripNotes)
-    → i ≡ form.rows → AreRowsRead form b i reference left other → AreNotesAfter form.coding left other notes
+    → i ≡ form.rows → AreRowsRead form b i reference remaining other → AreNotesAfter form.coding remaining other notes
     → (rows : List (List Colour)) × IsNotedAs form b rows notes
-all_noted form b left i reference other notes all so_far ends = (
+all_noted form b remaining i reference other notes all so_far ends = (
   so_far.before,
-  noted_after form b left so_far.before other notes (stopped form b left i reference other None so_far all) ends
-      (other_there form b left i reference other so_far) (other_found form b left i reference other so_far),
+  noted_after form b remaining so_far.before other notes (stopped form b remaining i reference other None so_far all)
+      ends
+      (other_there form b remaining i reference other so_far) (other_found form b remaining i reference other so_far),
 )
 
 -- other choices are the same in a strip of other rows
 other_choice_of : (form : StripForm) (from to i : ℕ) (reference : List Colour) (b : List Bool)
     (rows : List (List Colour))
-    → HasOtherChoice (of_rows form from) i reference b rows → HasOtherChoice (of_rows form to) i reference b rows
+    → HasNonCanonicalRow (of_rows form from) i reference b rows
+    → HasNonCanonicalRow (of_rows form to) i reference b rows
 other_choice_of form from to i reference b [] has = has
 other_choice_of form from to i reference b (row ∷ rows) has = (
   has.0,
@@ -226,41 +242,45 @@ other_choice_of form from to i reference b (row ∷ rows) has = (
   ],
 )
 
--- rows that nobody counted were read, and none is after them
-pub uncounted_noted : (form : StripForm) (b left : List Bool) (i : ℕ) (reference : List Colour) (other : Bool)
+-- rows of a strip of unknown height were read, and none is after them
+pub uncounted_noted : (form : StripForm) (b remaining : List Bool) (i : ℕ) (reference : List Colour) (other : Bool)
     (stop : Option StripFault)
-    (found : UncountedNotes) → AreRowsRead (uncounted form) b i reference left other
-    → EndsAt (uncounted form) i reference left stop
-    → AreFoundAfter form.coding left i stop other found → (rows : List (List Colour))
+    (found : UncountedNotes) → AreRowsRead (uncounted form) b i reference remaining other
+    → EndsAt (uncounted form) i reference remaining stop
+    → AreFoundAfter form.coding remaining i stop other found → (rows : List (List Colour))
     × IsNotedUncounted form b rows found
-uncounted_noted form b left i reference other stop found so_far stops ends =
+uncounted_noted form b remaining i reference other stop found so_far stops ends =
     let rows = so_far.before in
     let white = white_row form.width in
-    let lines = stopped (uncounted form) b left i reference other stop so_far stops in
+    let lines = stopped (uncounted form) b remaining i reference other stop so_far stops in
     let of_count : IsNotedUncounted form b rows found = record {
       count = ends.rows_are ∙ sym so_far.count;
       uncounted = record {
-        left = left;
+        remaining = remaining;
         stop = stop;
         lines = lines;
-        ends = subst (λ n. EndsSo form.coding n left stop found.end) (sym so_far.count) ends.end;
+        ends = subst (λ n. RowsEndAs form.coding n remaining stop found.end) (sym so_far.count) ends.end;
       };
       noted =
-          noted_after (of_rows form found.rows) b left rows other found.notes
-          (all_lines form most_rows found.rows 0 white b rows stop left (omega (arith, so_far.count, ends.rows_are))
+          noted_after (of_rows form found.rows) b remaining rows other found.notes
+          (all_lines form most_rows found.rows 0 white b rows stop remaining (omega (
+            arith,
+            so_far.count,
+            ends.rows_are,
+          ))
           lines) ends.notes
           (λ is. other_choice_of form most_rows found.rows 0 white b rows
-          (other_there (uncounted form) b left i reference other so_far is))
-          (λ has. other_found (uncounted form) b left i reference other so_far
+          (other_there (uncounted form) b remaining i reference other so_far is))
+          (λ has. other_found (uncounted form) b remaining i reference other so_far
           (other_choice_of form found.rows most_rows 0 white b rows has));
     } in
     (rows, of_count)
 
-pub uncounted_stopped : (form : StripForm) (b left : List Bool) (i : ℕ) (reference : List Colour) (other : Bool)
+pub uncounted_stopped : (form : StripForm) (b remaining : List Bool) (i : ℕ) (reference : List Colour) (other : Bool)
     (fault : StripFault) (row : ℕ)
-    (found : UncountedNotes) → i < most_rows → AreRowsRead (uncounted form) b i reference left other
-    → IsLineFault (uncounted form) i reference left (Strip row fault)
-    → AreFoundAfter form.coding left i (Some fault) other found
+    (found : UncountedNotes) → i < most_rows → AreRowsRead (uncounted form) b i reference remaining other
+    → IsLineFault (uncounted form) i reference remaining (Strip row fault)
+    → AreFoundAfter form.coding remaining i (Some fault) other found
     → (rows : List (List Colour)) × IsNotedUncounted form b rows found
-uncounted_stopped form b left i reference other fault row found due so_far stop ends =
-    uncounted_noted form b left i reference other (Some fault) found so_far (due, stop.1) ends
+uncounted_stopped form b remaining i reference other fault row found upcoming so_far stop ends =
+    uncounted_noted form b remaining i reference other (Some fault) found so_far (upcoming, stop.1) ends

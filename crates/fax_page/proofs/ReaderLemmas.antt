@@ -8,7 +8,7 @@ use Rattle.fax_page.specs.views.Reader.{StripState, bits_left, strip_after, Read
 use Rattle.fax_page.specs.laws.Reader.{HasReadFrom, ReadsRowByRow, StripsAreReadOn}
 
 begins_on : (start : StripState) → HasReadFrom start [] start
-begins_on start = record { same_form = refl; same_bytes = refl; followed = λ more end left lines. lines }
+begins_on start = record { same_form = refl; same_bytes = refl; followed = λ more end remaining lines. lines }
 
 -- one row more
 row_read_on : (start : StripState) (rows : List (List Colour)) (old new : StripState) → HasReadFrom start rows old
@@ -53,12 +53,20 @@ stays_there old new fault h = grind arith
 -- from a strip's beginning on
 pub read_row_by_row : ReadsRowByRow
 read_row_by_row = record {
-  begins = λ read form bytes. record { same_form = refl; same_bytes = refl; followed = λ more end left lines. lines };
+  begins = λ read form bytes. record {
+    same_form = refl;
+    same_bytes = refl;
+    followed = λ more end remaining lines. lines;
+  };
   goes_on = λ form bytes. row_read_on (strip_after 0 form bytes);
   ends = λ form bytes rows old new so_far at_end.
-      record { left = bits_left old; lines = ended_before (strip_after 0 form bytes) rows old new so_far at_end };
+      record { remaining = bits_left old; lines = ended_before (strip_after 0 form bytes) rows old new so_far at_end };
   stops = λ form bytes rows old new fault so_far meets.
-      record { left = bits_left old; lines = fault_before (strip_after 0 form bytes) rows old new fault so_far meets };
+      record {
+        remaining = bits_left old;
+        lines = fault_before (strip_after 0 form bytes) rows old new fault so_far
+            meets;
+      };
 }
 
 -- from any place on

@@ -19,8 +19,8 @@ use Rattle.fax_page.proofs.FrontLemmas.{EndsWith, among, answer_of, onwards}
 -- so many bits stand before the codes of a row that begins
 pub start_among : (coding : Coding) (i : ℕ) (b : List Bool) (dimension : Dimension) (codes : List Bool)
     → IsStart coding i b (read dimension codes) → (n : ℕ) × (n ≤ length b) × (drop n b ≡ codes)
-start_among coding i b dimension codes begun =
-    among b codes (answer_of dimension codes begun (start_front [] coding i b)).0
+start_among coding i b dimension codes origin =
+    among b codes (answer_of dimension codes origin (start_front [] coding i b)).0
 
 -- so many bits stand before the rest of a row that begins among them
 pub rest_among : (form : StripForm) (i : ℕ) (reference : List Colour)
@@ -34,24 +34,24 @@ rest_among form i reference ends b n row rest line =
 -- the cause why there is no row at a place of a source
 pub cause_there : (form : StripForm) (i : ℕ) (reference : List Colour) (bytes : List ℕ) (place : ℕ) (old : Source)
     (fault : StripFault)
-    → old ≡ source_of form.order bytes place → IsCause form i reference old.left fault
+    → old ≡ source_of form.order bytes place → IsCause form i reference old.remaining fault
     → IsCause form i reference (drop place (bits form.order bytes)) fault
 cause_there form i reference bytes place old fault here cause = grind arith
 
 -- a row between two places of a source
 module _ (form : StripForm) (i : ℕ) (reference row : List Colour) (bytes : List ℕ) (place after : ℕ) (old new : Source)
     (count : length (bits form.order bytes) ≡ 8 * length bytes) (placed : place ≤ 8 * length bytes)
-    (here : old ≡ source_of form.order bytes place) (line : IsLine form i reference old.left row new.left)
-    (same_end : new.place + length new.left ≡ old.place + length old.left) (after_is : after ≡ new.place)
+    (here : old ≡ source_of form.order bytes place) (line : IsLine form i reference old.remaining row new.remaining)
+    (same_end : new.place + length new.remaining ≡ old.place + length old.remaining) (after_is : after ≡ new.place)
     (reads : ReadsLinesOneWay form i reference) where
   abbrev b : List Bool
   b = bits form.order bytes
 
-  line_here : IsLine form i reference (drop place b) row new.left
+  line_here : IsLine form i reference (drop place b) row new.remaining
   line_here = rw here at line
 
-  from : (n : ℕ) × (n ≤ length b) × (drop n b ≡ new.left)
-  from = reads.rest b place row new.left line_here
+  from : (n : ℕ) × (n ≤ length b) × (drop n b ≡ new.remaining)
+  from = reads.rest b place row new.remaining line_here
 
   from_is : from.0 ≡ after
   from_is = grind (arith, length-drop)

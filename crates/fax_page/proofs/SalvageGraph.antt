@@ -18,10 +18,10 @@ use Rattle.fax_page.specs.declared.StripForm.{StripForm}
 use Rattle.fax_page.specs.Lines.{NextOne}
 use Rattle.fax_page.specs.Lines.{ends_line, in_code, next_one, not_there, read_start}
 use Rattle.fax_page.specs.Lines.{white_row}
-use Rattle.fax_page.specs.Salvage.{AreSalvaged, BeginsTwoDimensional, GoesOnAfter, IsEolDue, IsLostFor, IsReadOver}
-use Rattle.fax_page.specs.Salvage.{sought_from, SalvagedRow, found, lost, next_due, unended}
+use Rattle.fax_page.specs.Salvage.{AreSalvaged, IsTwoDimensionalNext, ResumesAfter, NeedsEol, IsLostBecause, IsReadFrom}
+use Rattle.fax_page.specs.Salvage.{resync_from, SalvagedRow, found, lost, resync_point, unended}
 use Rattle.fax_page.specs.Lines.{read_line}
-use Rattle.fax_page.specs.reads.Salvage.{after_lost, is_in_code, cause_over, from_eol, has_eols, lacks_eol}
+use Rattle.fax_page.specs.reads.Salvage.{after_lost, is_in_code, cause_over, from_eol, has_eols, is_unterminated}
 use Rattle.fax_page.specs.reads.Salvage.{read_over, row_and_more, salvage_rows, unless}
 
 abbrev pub Start : Type 0
@@ -56,15 +56,15 @@ each_of false second third is = absurd (cc is)
 each_of true false third is = absurd (cc is)
 each_of true true third is = (refl, refl, is)
 
-pub lacks : (form : StripForm) (i : ℕ) (rest : List Bool) → IsEolDue form i → BeginsBelowEleven rest
-    → lacks_eol form i rest ≡ true
-lacks form i rest due below =
-    let more : nat_lt (i + 1) form.rows ≡ true = grind (arith, nat_tests, due.1) in
+pub lacks : (form : StripForm) (i : ℕ) (rest : List Bool) → NeedsEol form i → BeginsBelowEleven rest
+    → is_unterminated form i rest ≡ true
+lacks form i rest upcoming below =
+    let more : nat_lt (i + 1) form.rows ≡ true = grind (arith, nat_tests, upcoming.1) in
     all_three (has_eols form.coding) (nat_lt (i + 1) form.rows) (is_in_code (next_one 0 rest))
-    (eols form.coding due.0) more (ap is_in_code below)
+    (eols form.coding upcoming.0) more (ap is_in_code below)
 
-pub lacks_where : (form : StripForm) (i : ℕ) (rest : List Bool) → lacks_eol form i rest ≡ true
-    → IsEolDue form i × BeginsBelowEleven rest
+pub lacks_where : (form : StripForm) (i : ℕ) (rest : List Bool) → is_unterminated form i rest ≡ true
+    → NeedsEol form i × BeginsBelowEleven rest
 lacks_where form i rest is =
     let each = each_of (has_eols form.coding) (nat_lt (i + 1) form.rows)
     (is_in_code (next_one 0 rest)) is in
@@ -75,8 +75,8 @@ lacks_where form i rest is =
 
 -- a row that is read, or lost
 abbrev pub IsOver : StripForm → ℕ → Option StripFault → List Colour → List Bool → Line → Type 0
-IsOver form i before reference b (read row rest) = IsReadOver form i before reference b row rest
-IsOver form i before reference b (failed fault) = IsLostFor form i before reference b fault
+IsOver form i before reference b (read row rest) = IsReadFrom form i before reference b row rest
+IsOver form i before reference b (failed fault) = IsLostBecause form i before reference b fault
 
 -- by how it begins
 pub by_start : (form : StripForm) (i : ℕ) (before : Option StripFault) (reference : List Colour) (b : List Bool)
@@ -87,14 +87,14 @@ by_start form i None reference b start same (read row rest) line =
 by_start form i None reference b start same (failed fault) cause = inr (inl refl, cause)
 by_start form i (Some before) reference b (read TwoDimensional codes) same r line = inl (refl, (codes, same))
 by_start form i (Some before) reference b (read OneDimensional codes) same (read row rest) line =
-    record { line = line; alone = λ some two. let begun = two.1 in cc (same, begun) }
+    record { line = line; alone = λ some two. let origin = two.1 in cc (same, origin) }
 by_start form i (Some before) reference b (read OneDimensional codes) same (failed fault) cause =
-    let no_two : BeginsTwoDimensional form.coding i b → ⊥ = λ two. let begun = two.1 in absurd (cc (same, begun)) in
+    let no_two : IsTwoDimensionalNext form.coding i b → ⊥ = λ two. let origin = two.1 in absurd (cc (same, origin)) in
     inr (inr no_two, cause)
 by_start form i (Some before) reference b (failed stop) same (read row rest) line =
-    record { line = line; alone = λ some two. let begun = two.1 in cc (same, begun) }
+    record { line = line; alone = λ some two. let origin = two.1 in cc (same, origin) }
 by_start form i (Some before) reference b (failed stop) same (failed fault) cause =
-    let no_two : BeginsTwoDimensional form.coding i b → ⊥ = λ two. let begun = two.1 in absurd (cc (same, begun)) in
+    let no_two : IsTwoDimensionalNext form.coding i b → ⊥ = λ two. let origin = two.1 in absurd (cc (same, origin)) in
     inr (inr no_two, cause)
 
 abbrev More : Type 0
@@ -103,33 +103,34 @@ More = Option StripFault → List Colour → List Bool → List SalvagedRow
 -- the rows after a lost one
 by_due : (n : ℕ) (form : StripForm) (i : ℕ) (more : More) (fault : StripFault) (at : Option (List Bool))
     → n ≡ form.rows - (i + 1)
-    → ((due : List Bool) → AreSalvaged form (i + 1) (Some fault) (white_row form.width) due
-    (more (Some fault) (white_row form.width) due))
+    → ((upcoming : List Bool) → AreSalvaged form (i + 1) (Some fault) (white_row form.width) upcoming
+    (more (Some fault) (white_row form.width) upcoming))
     → MatchOption at (from_eol n form more fault at ≡ replicate (form.rows - (i + 1)) (lost fault))
-    (λ due. AreSalvaged form (i + 1) (Some fault) (white_row form.width) due (from_eol n form more fault at))
+    (λ upcoming. AreSalvaged form (i + 1) (Some fault) (white_row form.width) upcoming (from_eol n form more fault at))
 by_due n form i more fault None count are = ap (λ k. replicate k (lost fault)) count
-by_due n form i more fault (Some due) count are = are due
+by_due n form i more fault (Some upcoming) count are = are upcoming
 
 goes_on : (n : ℕ) (form : StripForm) (i : ℕ) (b : List Bool) (more : More) (fault : StripFault)
     → n ≡ form.rows - (i + 1)
-    → ((due : List Bool) → AreSalvaged form (i + 1) (Some fault) (white_row form.width) due
-    (more (Some fault) (white_row form.width) due))
-    → GoesOnAfter form i b fault
-    (λ due. AreSalvaged form (i + 1) (Some fault) (white_row form.width) due (after_lost n form i b more fault))
+    → ((upcoming : List Bool) → AreSalvaged form (i + 1) (Some fault) (white_row form.width) upcoming
+    (more (Some fault) (white_row form.width) upcoming))
+    → ResumesAfter form i b fault
+    (λ upcoming. AreSalvaged form (i + 1) (Some fault) (white_row form.width) upcoming (after_lost n form i b more
+    fault))
     (after_lost n form i b more fault)
 goes_on n form i b more fault count are = (
-  sought_from b (read_start form.coding i b),
+  resync_from b (read_start form.coding i b),
   refl,
-  by_due n form i more fault (next_due form.coding (sought_from b (read_start form.coding i b))) count are,
+  by_due n form i more fault (resync_point form.coding (resync_from b (read_start form.coding i b))) count are,
 )
 
 -- a row and those after it
 module _ (n : ℕ) (form : StripForm) (i : ℕ) (before : Option StripFault) (reference : List Colour) (b : List Bool)
-    (more : More) (due : i + suc n ≡ form.rows)
+    (more : More) (upcoming : i + suc n ≡ form.rows)
     (are : (lost : Option StripFault) (row : List Colour) (rest : List Bool)
     → AreSalvaged form (i + 1) lost row rest (more lost row rest)) where
-  by_end : (row : List Colour) (rest : List Bool) → IsReadOver form i before reference b row rest → (missing : Bool)
-      → lacks_eol form i rest ≡ missing
+  by_end : (row : List Colour) (rest : List Bool) → IsReadFrom form i before reference b row rest → (missing : Bool)
+      → is_unterminated form i rest ≡ missing
       → AreSalvaged form i before reference b
       (if missing then (unended row ∷ after_lost n form i b more MissingEol) else (found row ∷ more None row rest))
   by_end row rest over true at =
@@ -138,12 +139,12 @@ module _ (n : ℕ) (form : StripForm) (i : ℕ) (before : Option StripFault) (re
         over,
         missing.0,
         missing.1,
-        goes_on n form i b more MissingEol (omega (arith, due))
+        goes_on n form i b more MissingEol (omega (arith, upcoming))
             (λ next. are (Some MissingEol) (white_row form.width) next),
       )
   by_end row rest over false at = (
     rest,
-    omega (arith, due),
+    omega (arith, upcoming),
     over,
     (λ eol below. let missing = lacks form i rest eol below in absurd (cc (at, missing))),
     are None row rest,
@@ -151,11 +152,11 @@ module _ (n : ℕ) (form : StripForm) (i : ℕ) (before : Option StripFault) (re
 
   by_line : (r : Line) → IsOver form i before reference b r
       → AreSalvaged form i before reference b (row_and_more n form i b more r)
-  by_line (read row rest) over = by_end row rest over (lacks_eol form i rest) refl
+  by_line (read row rest) over = by_end row rest over (is_unterminated form i rest) refl
   by_line (failed fault) cause = (
-    omega (arith, due),
+    omega (arith, upcoming),
     cause,
-    goes_on n form i b more fault (omega (arith, due)) (λ next. are (Some fault) (white_row form.width) next),
+    goes_on n form i b more fault (omega (arith, upcoming)) (λ next. are (Some fault) (white_row form.width) next),
   )
 
 -- a row that is read, or lost, is defined so
@@ -165,7 +166,7 @@ over_is form i before reference b =
     by_start form i before reference b (read_start form.coding i b) refl (read_line form i reference b) refl
 
 no_cause : (form : StripForm) (i : ℕ) (before : StripFault) (b : List Bool) (start : Start)
-    → IsStart form.coding i b start → (BeginsTwoDimensional form.coding i b → ⊥)
+    → IsStart form.coding i b start → (IsTwoDimensionalNext form.coding i b → ⊥)
     → cause_over (Some before) start ≡ None
 no_cause form i before b (failed fault) is not_two = refl
 no_cause form i before b (read OneDimensional codes) is not_two = refl
@@ -173,7 +174,7 @@ no_cause form i before b (read TwoDimensional codes) is not_two = absurd (not_tw
 
 -- and what is defined is read
 pub over_of : (form : StripForm) (i : ℕ) (before : Option StripFault) (reference : List Colour) (b : List Bool)
-    (row : List Colour) (rest : List Bool) → IsReadOver form i before reference b row rest
+    (row : List Colour) (rest : List Bool) → IsReadFrom form i before reference b row rest
     → read_over form i before reference b ≡ read row rest
 over_of form i None reference b row rest over = over.line
 over_of form i (Some before) reference b row rest over =
@@ -182,7 +183,7 @@ over_of form i (Some before) reference b row rest over =
     ∙ over.line
 
 pub lost_of : (form : StripForm) (i : ℕ) (before : Option StripFault) (reference : List Colour) (b : List Bool)
-    (fault : StripFault) → IsLostFor form i before reference b fault
+    (fault : StripFault) → IsLostBecause form i before reference b fault
     → read_over form i before reference b ≡ failed fault
 lost_of form i before reference b fault (inl (is, (codes, two))) =
     ap (λ cause. unless (cause_over cause (read_start form.coding i b)) (read_line form i reference b)) is
@@ -198,33 +199,34 @@ lost_of form i (Some before) reference b fault (inr (inr not_two, cause)) =
 pub rows_are : (n : ℕ) (form : StripForm) (i : ℕ) (before : Option StripFault) (reference : List Colour)
     (b : List Bool) → i + n ≡ form.rows
     → AreSalvaged form i before reference b (salvage_rows n form i before reference b)
-rows_are zero form i before reference b due = omega (arith, due)
-rows_are (suc n) form i before reference b due =
-    by_line n form i before reference b (λ before row rest. salvage_rows n form (i + 1) before row rest) due
-    (λ before row rest. rows_are n form (i + 1) before row rest (omega (arith, due)))
+rows_are zero form i before reference b upcoming = omega (arith, upcoming)
+rows_are (suc n) form i before reference b upcoming =
+    by_line n form i before reference b (λ before row rest. salvage_rows n form (i + 1) before row rest) upcoming
+    (λ before row rest. rows_are n form (i + 1) before row rest (omega (arith, upcoming)))
     (read_over form i before reference b) (over_is form i before reference b)
 
 -- what follows a lost row
 after_of : (n : ℕ) (form : StripForm) (i : ℕ) (b : List Bool) (fault : StripFault) (rows : List SalvagedRow)
     → i + suc n ≡ form.rows
-    → ((due : List Bool) → AreSalvaged form (i + 1) (Some fault) (white_row form.width) due rows
-    → salvage_rows n form (i + 1) (Some fault) (white_row form.width) due ≡ rows)
-    → GoesOnAfter form i b fault (λ due. AreSalvaged form (i + 1) (Some fault) (white_row form.width) due rows) rows
+    → ((upcoming : List Bool) → AreSalvaged form (i + 1) (Some fault) (white_row form.width) upcoming rows
+    → salvage_rows n form (i + 1) (Some fault) (white_row form.width) upcoming ≡ rows)
+    → ResumesAfter form i b fault (λ upcoming. AreSalvaged form (i + 1) (Some fault) (white_row form.width) upcoming
+    rows) rows
     → after_lost n form i b (λ before row rest. salvage_rows n form (i + 1) before row rest) fault ≡ rows
 after_of n form i b fault rows count later (from, sought, after) =
-    ap (λ f. from_eol n form more fault (next_due form.coding f)) sought
-    ∙ at_due (next_due form.coding from) after
+    ap (λ f. from_eol n form more fault (resync_point form.coding f)) sought
+    ∙ at_due (resync_point form.coding from) after
   where
     more : More
     more before row rest = salvage_rows n form (i + 1) before row rest
 
     at_due : (o : Option (List Bool)) → MatchOption o (rows ≡ replicate (form.rows - (i + 1)) (lost fault))
-        (λ due. AreSalvaged form (i + 1) (Some fault) (white_row form.width) due rows)
+        (λ upcoming. AreSalvaged form (i + 1) (Some fault) (white_row form.width) upcoming rows)
         → from_eol n form more fault o ≡ rows
     at_due None all =
         let many : n ≡ form.rows - (i + 1) = omega (arith, count) in
         ap (λ k. replicate k (lost fault)) many ∙ sym all
-    at_due (Some due) are = later due are
+    at_due (Some upcoming) are = later upcoming are
 
 pub rows_of : (n : ℕ) (form : StripForm) (i : ℕ) (before : Option StripFault) (reference : List Colour)
     (b : List Bool) (rows : List SalvagedRow) → i + n ≡ form.rows → AreSalvaged form i before reference b rows
@@ -236,7 +238,7 @@ rows_of zero form i before reference b (unended row ∷ rows) count are = absurd
 rows_of (suc n) form i before reference b [] count are = absurd (omega (arith, count, are))
 rows_of (suc n) form i before reference b (found row ∷ rows) count (rest, low, over, ended, are) =
     let more : More = λ before row rest. salvage_rows n form (i + 1) before row rest in
-    let none = is_false (lacks_eol form i rest) (λ is. let missing = lacks_where form i rest is in
+    let none = is_false (is_unterminated form i rest) (λ is. let missing = lacks_where form i rest is in
     ended missing.0 missing.1) in
     ap (row_and_more n form i b more) (over_of form i before reference b row rest over)
     ∙ ap (λ missing. if missing then unended row ∷ after_lost n form i b more MissingEol
@@ -246,12 +248,16 @@ rows_of (suc n) form i before reference b (lost fault ∷ rows) count (low, is, 
     let more : More = λ before row rest. salvage_rows n form (i + 1) before row rest in
     ap (row_and_more n form i b more) (lost_of form i before reference b fault is)
     ∙ ap (λ all. lost fault ∷ all) (after_of n form i b fault rows count
-    (λ due are. rows_of n form (i + 1) (Some fault) (white_row form.width) due rows (omega (arith, count)) are) after)
-rows_of (suc n) form i before reference b (unended row ∷ rows) count (rest, over, due, below, after) =
+    (λ upcoming are. rows_of n form (i + 1) (Some fault) (white_row form.width) upcoming rows (omega (arith, count))
+    are) after)
+rows_of (suc n) form i before reference b (unended row ∷ rows) count (rest, over, upcoming, below, after) =
     let more : More = λ before row rest. salvage_rows n form (i + 1) before row rest in
     ap (row_and_more n form i b more) (over_of form i before reference b row rest over)
     ∙ ap (λ missing. if missing then unended row ∷ after_lost n form i b more MissingEol
-    else found row ∷ more None row rest) (lacks form i rest due below)
+    else found row ∷ more None row rest) (lacks form i rest upcoming below)
     ∙ ap (λ all. unended row ∷ all) (after_of n form i b MissingEol rows count
-    (λ due are. rows_of n form (i + 1) (Some MissingEol) (white_row form.width) due rows (omega (arith, count)) are)
+    (λ upcoming are. rows_of n form (i + 1) (Some MissingEol) (white_row form.width) upcoming rows (omega (
+      arith,
+      count,
+    )) are)
     after)

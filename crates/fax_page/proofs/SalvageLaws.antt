@@ -10,8 +10,8 @@ use Rattle.fax_bits.specs.declared.Colour.{Colour}
 use Rattle.fax_page.specs.declared.StripFault.TheVariants.{MissingEol}
 use Rattle.fax_page.specs.Lines.{Coding, Dimension, Mh, Mmr, Mr, start_by}
 use Rattle.fax_page.specs.Lines.{IsLine, StripFault, StripForm, white_row}
-use Rattle.fax_page.specs.Salvage.{AreSalvaged, GoesOnAfter, IsEolDue}
-use Rattle.fax_page.specs.Salvage.{SalvagedRow, found, lost, next_due, unended}
+use Rattle.fax_page.specs.Salvage.{AreSalvaged, ResumesAfter, NeedsEol}
+use Rattle.fax_page.specs.Salvage.{SalvagedRow, found, lost, resync_point, unended}
 use Rattle.fax_page.specs.Strip.{AreLines}
 use Rattle.fax_page.specs.laws.Salvage.{FindsWholeStrips, SalvagesStripsOneWay}
 use Rattle.fax_bits.specs.Reading.{read, failed}
@@ -23,20 +23,21 @@ use Rattle.fax_page.proofs.SalvageGraph.{rows_are, rows_of}
 -- ---- as many rows as the strip has
 
 mutual_count : (form : StripForm) (i : ℕ) (b : List Bool) (fault : StripFault) (rows : List SalvagedRow) → i < form.rows
-    → ((due : List Bool) → AreSalvaged form (i + 1) (Some fault) (white_row form.width) due rows
+    → ((upcoming : List Bool) → AreSalvaged form (i + 1) (Some fault) (white_row form.width) upcoming rows
     → i + 1 + length rows ≡ form.rows)
-    → GoesOnAfter form i b fault (λ due. AreSalvaged form (i + 1) (Some fault) (white_row form.width) due rows) rows
+    → ResumesAfter form i b fault (λ upcoming. AreSalvaged form (i + 1) (Some fault) (white_row form.width) upcoming
+    rows) rows
     → i + 1 + length rows ≡ form.rows
-mutual_count form i b fault rows low later (from, sought, after) = at_due (next_due form.coding from) after
+mutual_count form i b fault rows low later (from, sought, after) = at_due (resync_point form.coding from) after
   where
     at_due : (o : Option (List Bool)) → MatchOption o (rows ≡ replicate (form.rows - (i + 1)) (lost fault))
-        (λ due. AreSalvaged form (i + 1) (Some fault) (white_row form.width) due rows)
+        (λ upcoming. AreSalvaged form (i + 1) (Some fault) (white_row form.width) upcoming rows)
         → i + 1 + length rows ≡ form.rows
     at_due None all =
         let count : length rows ≡ form.rows - (i + 1) =
         ap (λ (l : List SalvagedRow). length l) all ∙ length-replicate (form.rows - (i + 1)) (lost fault) in
         omega (arith, count, low)
-    at_due (Some due) are = later due are
+    at_due (Some upcoming) are = later upcoming are
 
 counted : (form : StripForm) (i : ℕ) (before : Option StripFault) (reference : List Colour) (b : List Bool)
     (rows : List SalvagedRow) → AreSalvaged form i before reference b rows → i + length rows ≡ form.rows
@@ -46,38 +47,38 @@ counted form i before reference b (found row ∷ rows) (rest, low, over, ended, 
 counted form i before reference b (lost fault ∷ rows) (low, is, after) =
     omega (
       arith,
-      mutual_count form i b fault rows low (λ due. counted form (i + 1) (Some fault) (white_row form.width)
-          due rows) after,
+      mutual_count form i b fault rows low (λ upcoming. counted form (i + 1) (Some fault) (white_row form.width)
+          upcoming rows) after,
     )
-counted form i before reference b (unended row ∷ rows) (rest, over, due, below, after) =
+counted form i before reference b (unended row ∷ rows) (rest, over, upcoming, below, after) =
     omega (
       arith,
-      mutual_count form i b MissingEol rows (omega (arith, due.1)) (λ due. counted form (i + 1)
-          (Some MissingEol) (white_row form.width) due rows) after,
+      mutual_count form i b MissingEol rows (omega (arith, upcoming.1)) (λ upcoming. counted form (i + 1)
+          (Some MissingEol) (white_row form.width) upcoming rows) after,
     )
 
 pub strips_are_salvaged : SalvagesStripsOneWay
 strips_are_salvaged form i before reference b within =
-    let due : i + (form.rows - i) ≡ form.rows = omega (arith, within) in
+    let upcoming : i + (form.rows - i) ≡ form.rows = omega (arith, within) in
     let rows = salvage_rows (form.rows - i) form i before reference b in
-    let are = rows_are (form.rows - i) form i before reference b due in
+    let are = rows_are (form.rows - i) form i before reference b upcoming in
     record {
       rows = rows;
       are = are;
       count = counted form i before reference b rows are;
-      one = λ others other. sym (rows_of (form.rows - i) form i before reference b others due other);
+      one = λ others other. sym (rows_of (form.rows - i) form i before reference b others upcoming other);
     }
 
 -- ---- strips that are read wholly
 
 all_found_are_lines : (form : StripForm) (i : ℕ) (reference : List Colour) (b : List Bool) (rows : List (List Colour))
     → AreSalvaged form i None reference b (map (λ row. found row) rows)
-    → (left : List Bool) × AreLines form i reference b rows None left
+    → (remaining : List Bool) × AreLines form i reference b rows None remaining
 all_found_are_lines form i reference b [] are = (b, (refl, are))
 all_found_are_lines form i reference b (row ∷ rows) (rest, low, over, ended, are) =
     let more = all_found_are_lines form (i + 1) row rest rows are in (more.0, (rest, low, over.line, more.1))
 
--- a code where an EOL is due
+-- a code where an EOL is expected
 pub eol_is_missing : (coding : Coding) (i : ℕ) (b : List Bool) → coding ≢ Mmr → BeginsBelowEleven b
     → IsStart coding (i + 1) b (failed MissingEol)
 eol_is_missing Mh i b other below =
@@ -88,8 +89,8 @@ eol_is_missing Mmr i b other below = absurd (other refl)
 -- stands before no row that is read
 pub begins_with_eol : (coding : Coding) (i : ℕ) (b codes : List Bool) (dimension : Dimension) → coding ≢ Mmr
     → IsStart coding (i + 1) b (read dimension codes) → BeginsBelowEleven b → ⊥
-begins_with_eol coding i b codes dimension other begun below =
-    let same = one_start coding (i + 1) b _ _ begun (eol_is_missing coding i b other below) in cc
+begins_with_eol coding i b codes dimension other origin below =
+    let same = one_start coding (i + 1) b _ _ origin (eol_is_missing coding i b other below) in cc
 
 pub none_begins : (form : StripForm) (i : ℕ) (reference : List Colour) (b : List Bool) (row : List Colour)
     (rest : List Bool) → IsLine form (i + 1) reference b row rest → form.coding ≢ Mmr → BeginsBelowEleven b → ⊥
@@ -98,21 +99,22 @@ none_begins form i reference b row rest line other below =
     begins_with_eol form.coding i b line.codes line.dimension other line.start below
 
 no_eol_lacks : (form : StripForm) (i : ℕ) (row : List Colour) (rest : List Bool) (rows : List (List Colour))
-    (left : List Bool) → AreLines form (i + 1) row rest rows None left → IsEolDue form i → BeginsBelowEleven rest → ⊥
-no_eol_lacks form i row rest [] left lines due below = omega (arith, lines.1, due.1)
-no_eol_lacks form i row rest (other ∷ rows) left (after, low, line, lines) due below =
-    none_begins form i row rest other after line due.0 below
+    (remaining : List Bool) → AreLines form (i + 1) row rest rows None remaining → NeedsEol form i
+    → BeginsBelowEleven rest → ⊥
+no_eol_lacks form i row rest [] remaining lines upcoming below = omega (arith, lines.1, upcoming.1)
+no_eol_lacks form i row rest (other ∷ rows) remaining (after, low, line, lines) upcoming below =
+    none_begins form i row rest other after line upcoming.0 below
 
 lines_are_all_found : (form : StripForm) (i : ℕ) (reference : List Colour) (b : List Bool) (rows : List (List Colour))
-    (left : List Bool) → AreLines form i reference b rows None left
+    (remaining : List Bool) → AreLines form i reference b rows None remaining
     → AreSalvaged form i None reference b (map (λ row. found row) rows)
-lines_are_all_found form i reference b [] left lines = lines.1
-lines_are_all_found form i reference b (row ∷ rows) left (rest, low, line, lines) = (
+lines_are_all_found form i reference b [] remaining lines = lines.1
+lines_are_all_found form i reference b (row ∷ rows) remaining (rest, low, line, lines) = (
   rest,
   low,
   record { line = line; alone = λ lost_before. absurd (lost_before refl) },
-  no_eol_lacks form i row rest rows left lines,
-  lines_are_all_found form (i + 1) row rest rows left lines,
+  no_eol_lacks form i row rest rows remaining lines,
+  lines_are_all_found form (i + 1) row rest rows remaining lines,
 )
 
 pub whole_strips_are_found : FindsWholeStrips

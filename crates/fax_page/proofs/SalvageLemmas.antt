@@ -9,10 +9,10 @@ use Rattle.std.proofs.lemmas.List.{length-drop, drop-drop}
 use Rattle.std.specs.Prelude.{nat_lt, nat_le, if◌then◌else◌, option_map, ◌≢◌}
 use Rattle.std.proofs.lemmas.Bool.Decides.{nat_tests}
 use Rattle.fax_bits.specs.Bits.{IsAllZeros}
-use Rattle.fax_bits.specs.views.Source.{Source, HasZerosAhead, KeepsEnd}
+use Rattle.fax_bits.specs.views.Source.{Source, HasLeadingZeros, KeepsEnd}
 use Rattle.fax_page.specs.Lines.{Coding, Mh, Mr, Mmr, Dimension, OneDimensional, StripFault}
-use Rattle.fax_page.specs.Strip.{end_of_line}
-use Rattle.fax_page.specs.Salvage.{BeginsTwoDimensional, after_eol, next_due, sought_from}
+use Rattle.fax_page.specs.Strip.{eol_bits}
+use Rattle.fax_page.specs.Salvage.{IsTwoDimensionalNext, after_eol, resync_point, resync_from}
 use Rattle.fax_page.specs.declared.StripFault.TheVariants.{DataEnds, MissingEol}
 use Rattle.fax_page.specs.code.Salvage.{IsAmong, IsFirstEol, IsNextEol, IsPassedBy}
 use Rattle.fax_page.proofs.BegunLemmas.{one_begun, one_start}
@@ -21,7 +21,8 @@ use Rattle.fax_page.specs.Lines.{NextOne, next_one, start_by}
 use Rattle.fax_page.proofs.StartLaws.{eol_at, eol_is_not_below, below_is_not_zeros}
 
 -- eleven zeros or more are not fewer
-pub not_below : (b : List Bool) (zeros : ℕ) → HasZerosAhead b zeros → nat_lt zeros 11 ≡ false → BeginsBelowEleven b → ⊥
+pub not_below : (b : List Bool) (zeros : ℕ) → HasLeadingZeros b zeros → nat_lt zeros 11 ≡ false → BeginsBelowEleven b
+    → ⊥
 not_below b zeros ahead enough below =
     eol_is_not_below b ahead.0 (eol_at b ahead.0 zeros (grind (arith, nat_tests)) ahead.1) below
 
@@ -30,11 +31,11 @@ not_below_zeros b all below = below_is_not_zeros b below all
 
 -- a row is coded in one dimension or in two
 pub not_two : (coding : Coding) (i : ℕ) (b codes : List Bool) → IsStart coding i b (read OneDimensional codes)
-    → BeginsTwoDimensional coding i b → ⊥
+    → IsTwoDimensionalNext coding i b → ⊥
 not_two coding i b codes one two = let same = one_begun coding i b _ _ _ _ one two.1 in cc
 
 pub not_begun : (coding : Coding) (i : ℕ) (b : List Bool) (fault : StripFault) → IsStart coding i b (failed fault)
-    → BeginsTwoDimensional coding i b → ⊥
+    → IsTwoDimensionalNext coding i b → ⊥
 not_begun coding i b fault stop two = let same = one_start coding i b _ _ stop two.1 in cc
 
 -- zeros alone have no EOL among them
@@ -42,7 +43,7 @@ pub no_eol : (n zeros : ℕ) → after_eol n (replicate zeros false) ≡ None
 no_eol n zero = refl
 no_eol n (suc zeros) = no_eol (suc n) zeros
 
--- the first 1 after zeros ends an EOL, or none has begun
+-- the first 1 after zeros ends an EOL, or none has started
 pub at_one : (n zeros : ℕ) (b : List Bool)
     → after_eol n (replicate zeros false ++ true ∷ b) ≡ (if nat_le 11 (n + zeros) then (Some b) else (after_eol 0 b))
 at_one n zero b = grind arith
@@ -63,141 +64,147 @@ zeros_count : (zeros : ℕ) (b after : List Bool) → b ≡ replicate zeros fals
 zeros_count zero b after is = grind arith
 zeros_count (suc zeros) b after is = grind (arith, zeros_count zeros (replicate zeros false ++ true ∷ after) after refl)
 
-module _ (source at : Source) (zeros : ℕ) (passed : IsPassedBy source at) (ahead : HasZerosAhead at.left zeros) where
-  abbrev at_place : at.place ≡ source.place + passed.before
-  at_place = ap (λ (s : Source). s.place) passed.at_is
+module _ (source at : Source) (zeros : ℕ) (passed : IsPassedBy source at) (ahead : HasLeadingZeros at.remaining zeros)
+  where
+    abbrev at_place : at.place ≡ source.place + passed.before
+    at_place = ap (λ (s : Source). s.place) passed.at_is
 
-  abbrev at_left : at.left ≡ drop passed.before source.left
-  at_left = ap (λ (s : Source). s.left) passed.at_is
+    abbrev at_left : at.remaining ≡ drop passed.before source.remaining
+    at_left = ap (λ (s : Source). s.remaining) passed.at_is
 
-  counted : passed.before + (zeros + 1) ≤ length source.left
-  counted =
-      let left : length at.left ≡ length source.left - passed.before =
-      ap length at_left ∙ length-drop passed.before source.left in
-      omega (arith, left, (zeros_count zeros at.left ahead.0 ahead.1).0, passed.within)
+    counted : passed.before + (zeros + 1) ≤ length source.remaining
+    counted =
+        let remaining : length at.remaining ≡ length source.remaining - passed.before =
+        ap length at_left ∙ length-drop passed.before source.remaining in
+        omega (arith, remaining, (zeros_count zeros at.remaining ahead.0 ahead.1).0, passed.within)
 
-  here : after_eol 0 source.left ≡ (if nat_le 11 zeros then (Some ahead.0) else (after_eol 0 ahead.0))
-  here =
-      let sum : 0 + zeros ≡ zeros = omega arith in
-      passed.no_eol ∙ ap (after_eol 0) ahead.1 ∙ at_one 0 zeros ahead.0
-      ∙ ap (λ n. if nat_le 11 n then (Some ahead.0) else (after_eol 0 ahead.0)) sum
+    here : after_eol 0 source.remaining ≡ (if nat_le 11 zeros then (Some ahead.0) else (after_eol 0 ahead.0))
+    here =
+        let sum : 0 + zeros ≡ zeros = omega arith in
+        passed.no_eol ∙ ap (after_eol 0) ahead.1 ∙ at_one 0 zeros ahead.0
+        ∙ ap (λ n. if nat_le 11 n then (Some ahead.0) else (after_eol 0 ahead.0)) sum
 
-  -- the EOL is found
-  pub eol_found : (new : Source) (place : ℕ) → 11 ≤ zeros
-      → new ≡ record { left = drop (zeros + 1) at.left; place = at.place + (zeros + 1) } → place ≡ new.place
-      → (rest : List Bool) × (after_eol 0 source.left ≡ Some rest) × IsAmong source (place - 12) (end_of_line ++ rest)
-  eol_found new place enough new_is place_is =
-      let found : after_eol 0 source.left ≡ Some ahead.0 = here ∙ (grind (arith, nat_tests)) in
-      let there : new.place ≡ at.place + (zeros + 1) = ap (λ (s : Source). s.place) new_is in
-      let eleven : zeros - (zeros - 11) ≡ 11 = omega (arith, enough) in (
-        ahead.0,
-        found,
+    -- the EOL is found
+    pub eol_found : (new : Source) (place : ℕ) → 11 ≤ zeros
+        → new ≡ record { remaining = drop (zeros + 1) at.remaining; place = at.place + (zeros + 1) } → place ≡ new.place
+        → (rest : List Bool) × (after_eol 0 source.remaining ≡ Some rest) × IsAmong source (place - 12) (eol_bits
+        ++ rest)
+    eol_found new place enough new_is place_is =
+        let found : after_eol 0 source.remaining ≡ Some ahead.0 = here ∙ (grind (arith, nat_tests)) in
+        let there : new.place ≡ at.place + (zeros + 1) = ap (λ (s : Source). s.place) new_is in
+        let eleven : zeros - (zeros - 11) ≡ 11 = omega (arith, enough) in (
+          ahead.0,
+          found,
+          record {
+            before = passed.before + (zeros - 11);
+            place_is = omega (arith, there, place_is, at_place, enough);
+            within = omega (arith, counted, enough);
+            bits_are =
+                sym (drop-drop (zeros - 11) passed.before source.remaining)
+                ∙ ap (drop (zeros - 11)) (sym at_left ∙ ahead.1)
+                ∙ drop_zeros (zeros - 11) zeros (true ∷ ahead.0) (omega arith)
+                ∙ ap (λ n. replicate n false ++ true ∷ ahead.0) eleven;
+          },
+        )
+
+    -- no EOL yet
+    pub passed_on : (new : Source) → zeros < 11
+        → new ≡ record { remaining = drop (zeros + 1) at.remaining; place = at.place + (zeros + 1) }
+        → IsPassedBy source new
+    passed_on new few new_is =
+        let rest : drop (zeros + 1) at.remaining ≡ ahead.0 = (zeros_count zeros at.remaining ahead.0 ahead.1).1 in
+        let none : after_eol 0 source.remaining ≡ after_eol 0 ahead.0 = here ∙ (grind (arith, nat_tests)) in
         record {
-          before = passed.before + (zeros - 11);
-          place_is = omega (arith, there, place_is, at_place, enough);
-          within = omega (arith, counted, enough);
-          bits_are =
-              sym (drop-drop (zeros - 11) passed.before source.left)
-              ∙ ap (drop (zeros - 11)) (sym at_left ∙ ahead.1)
-              ∙ drop_zeros (zeros - 11) zeros (true ∷ ahead.0) (omega arith)
-              ∙ ap (λ n. replicate n false ++ true ∷ ahead.0) eleven;
-        },
-      )
-
-  -- no EOL yet
-  pub passed_on : (new : Source) → zeros < 11
-      → new ≡ record { left = drop (zeros + 1) at.left; place = at.place + (zeros + 1) } → IsPassedBy source new
-  passed_on new few new_is =
-      let rest : drop (zeros + 1) at.left ≡ ahead.0 = (zeros_count zeros at.left ahead.0 ahead.1).1 in
-      let none : after_eol 0 source.left ≡ after_eol 0 ahead.0 = here ∙ (grind (arith, nat_tests)) in
-      record {
-        before = passed.before + (zeros + 1);
-        within = counted;
-        at_is = grind (arith, new_is, at_left, at_place, drop-drop);
-        no_eol = none ∙ ap (after_eol 0) (sym rest ∙ sym (ap (λ (s : Source). s.left) new_is));
-      }
+          before = passed.before + (zeros + 1);
+          within = counted;
+          at_is = grind (arith, new_is, at_left, at_place, drop-drop);
+          no_eol = none ∙ ap (after_eol 0) (sym rest ∙ sym (ap (λ (s : Source). s.remaining) new_is));
+        }
 
 -- no EOL is left
-pub none_left : (source at : Source) → IsPassedBy source at → IsAllZeros at.left → after_eol 0 source.left ≡ None
+pub none_left : (source at : Source) → IsPassedBy source at → IsAllZeros at.remaining → after_eol 0 source.remaining
+    ≡ None
 none_left source at passed all = passed.no_eol ∙ ap (after_eol 0) all.1 ∙ no_eol 0 all.0
 
--- where the next row is due, in MH and MR
+-- where the next row begins, in MH and MR
 due_is : (coding : Coding) (b : List Bool) → coding ≢ Mmr
-    → next_due coding b ≡ option_map (λ rest. end_of_line ++ rest) (after_eol 0 b)
+    → resync_point coding b ≡ option_map (λ rest. eol_bits ++ rest) (after_eol 0 b)
 due_is Mh b other = refl
 due_is Mr b other = refl
 due_is Mmr b other = absurd (other refl)
 
 -- a place after so many bits of a source is one of the source
 module _ (coding : Coding) (i : ℕ) (start from : Source) (n : ℕ) (other : coding ≢ Mmr)
-    (within : n ≤ length start.left) (left_is : drop n start.left ≡ from.left) (place_is : from.place ≡ start.place + n)
-    (sought : IsSoughtFrom coding i start.left from.left) where
+    (within : n ≤ length start.remaining) (left_is : drop n start.remaining ≡ from.remaining) (place_is : from.place
+    ≡ start.place + n)
+    (sought : IsSoughtFrom coding i start.remaining from.remaining) where
   among : (place : ℕ) (b : List Bool) → IsAmong from place b → IsAmong start place b
   among place b there =
-      let count : length from.left ≡ length start.left - n = ap length (sym left_is) ∙ length-drop n start.left in
+      let count : length from.remaining ≡ length start.remaining - n = ap length (sym left_is)
+      ∙ length-drop n start.remaining in
       record {
         before = n + there.before;
         place_is = omega (arith, there.place_is, place_is);
         within = omega (arith, there.within, count, within);
         bits_are =
-            sym (drop-drop there.before n start.left)
+            sym (drop-drop there.before n start.remaining)
             ∙ ap (drop there.before) left_is
             ∙ there.bits_are;
       }
 
   pub found_from : (found : Option ℕ) → IsFirstEol from found → IsNextEol coding i start found
   found_from None none = (
-    from.left,
+    from.remaining,
     sought,
-    due_is coding from.left other
-        ∙ ap (option_map (λ rest. end_of_line ++ rest)) none,
+    due_is coding from.remaining other
+        ∙ ap (option_map (λ rest. eol_bits ++ rest)) none,
   )
   found_from (Some place) (rest, some, there) = (
-    from.left,
+    from.remaining,
     sought,
     (
-      end_of_line ++ rest,
-      due_is coding from.left other
-          ∙ ap (option_map (λ rest. end_of_line ++ rest)) some,
-      among place (end_of_line ++ rest) there,
+      eol_bits ++ rest,
+      due_is coding from.remaining other
+          ∙ ap (option_map (λ rest. eol_bits ++ rest)) some,
+      among place (eol_bits ++ rest) there,
     ),
   )
 
 -- the EOL after a lost row's own EOL and tag bit
 pub after_own : (coding : Coding) (i : ℕ) (start from : Source) (dimension : Dimension) (found : Option ℕ)
-    → coding ≢ Mmr → IsStart coding i start.left (read dimension from.left) → KeepsEnd start from
+    → coding ≢ Mmr → IsStart coding i start.remaining (read dimension from.remaining) → KeepsEnd start from
     → IsFirstEol from found → IsNextEol coding i start found
-after_own coding i start from dimension found other begun same_end first =
-    let n = start_among coding i start.left dimension from.left begun in
-    let count : length from.left ≡ length start.left - n.0 =
-    ap length (sym n.2) ∙ length-drop n.0 start.left in
+after_own coding i start from dimension found other origin same_end first =
+    let n = start_among coding i start.remaining dimension from.remaining origin in
+    let count : length from.remaining ≡ length start.remaining - n.0 =
+    ap length (sym n.2) ∙ length-drop n.0 start.remaining in
     found_from coding i start from n.0 other n.1 n.2 (omega (arith, count, same_end, n.1))
-    (ap (sought_from start.left) begun) found first
+    (ap (resync_from start.remaining) origin) found first
 
 -- the EOL after the place of a lost row that has none
 pub after_place : (coding : Coding) (i : ℕ) (start : Source) (found : Option ℕ) → coding ≢ Mmr
-    → IsStart coding i start.left (failed MissingEol) → IsFirstEol start found → IsNextEol coding i start found
+    → IsStart coding i start.remaining (failed MissingEol) → IsFirstEol start found → IsNextEol coding i start found
 after_place coding i start found other missing first =
     found_from coding i start start 0 other (omega arith) refl (omega arith)
-    (ap (sought_from start.left) missing) found first
+    (ap (resync_from start.remaining) missing) found first
 
 -- the data end before a row's codes, and nothing is left
 pub after_end : (coding : Coding) (i : ℕ) (start : Source) (fault : StripFault) → fault ≢ MissingEol
-    → IsStart coding i start.left (failed fault) → IsNextEol coding i start None
+    → IsStart coding i start.remaining (failed fault) → IsNextEol coding i start None
 after_end coding i start fault other stop = ([], sought, nothing coding)
   where
-    nothing : (coding : Coding) → next_due coding [] ≡ None
+    nothing : (coding : Coding) → resync_point coding [] ≡ None
     nothing Mh = refl
     nothing Mr = refl
     nothing Mmr = refl
 
-    sought : IsSoughtFrom coding i start.left []
-    sought = ap (sought_from start.left) (by coding i (next_one 0 start.left) stop)
+    sought : IsSoughtFrom coding i start.remaining []
+    sought = ap (resync_from start.remaining) (by coding i (next_one 0 start.remaining) stop)
       where
-        by : (coding : Coding) (i : ℕ) (one : NextOne) → start_by coding i start.left one ≡ failed fault
-            → start_by coding i start.left one ≡ failed DataEnds
+        by : (coding : Coding) (i : ℕ) (one : NextOne) → start_by coding i start.remaining one ≡ failed fault
+            → start_by coding i start.remaining one ≡ failed DataEnds
         by coding i one is = grind arith
 
 -- no row of MMR has an EOL
 pub none_in_mmr : (coding : Coding) (i : ℕ) (start : Source) → coding ≡ Mmr → IsNextEol coding i start None
-none_in_mmr coding i start mmr = rw mmr (start.left, refl, refl)
+none_in_mmr coding i start mmr = rw mmr (start.remaining, refl, refl)

@@ -1,4 +1,4 @@
--- A row that is due after others begins among the bits of the strip.
+-- A row after others begins among the bits of the strip.
 use Rattle.fax_bits.specs.Reading.{Read, read, failed}
 use Rattle.fax_page.specs.code.Salvage.{IsSoughtFrom}
 use Rattle.fax_page.specs.declared.StripFault.TheVariants.{DataEnds}
@@ -9,10 +9,10 @@ use Rattle.std.specs.Prelude.{◌⊎◌, option_map, MatchOption}
 use Rattle.std.proofs.lemmas.Bool.{cases_lt}
 use Rattle.std.proofs.lemmas.Bool.Decides.{nat_tests}
 use Rattle.fax_bits.specs.declared.Colour.{Colour}
-use Rattle.fax_page.specs.declared.salvage_reader.Salvaged.TheVariants.{Found, Lost, Unended}
+use Rattle.fax_page.specs.declared.salvage_reader.Salvaged.TheVariants.{Found, Lost, Unterminated}
 use Rattle.fax_page.specs.Lines.{Coding, Dimension, Mh, Mr, Mmr, StripFault, StripForm, read_start, white_row}
-use Rattle.fax_page.specs.Strip.{end_of_line}
-use Rattle.fax_page.specs.Salvage.{after_eol, next_due, sought_from}
+use Rattle.fax_page.specs.Strip.{eol_bits}
+use Rattle.fax_page.specs.Salvage.{after_eol, resync_point, resync_from}
 use Rattle.fax_page.specs.laws.Salvage.{DueRowsStandInStrips, IsRestOf}
 use Rattle.fax_page.specs.laws.Strips.{ReadsLinesOneWay}
 use Rattle.fax_page.specs.views.Salvage.{IsAfterLost, SalvageState}
@@ -48,17 +48,17 @@ length_zeros (suc n) b = let rest = length_zeros n b in omega (arith, rest)
 
 -- the first EOL after so many zeros is among them and the bits
 eol_among : (n : ℕ) (b rest : List Bool) → after_eol n b ≡ Some rest
-    → IsRestOf (replicate n false ++ b) (end_of_line ++ rest)
+    → IsRestOf (replicate n false ++ b) (eol_bits ++ rest)
 eol_among n [] rest none = cc
 eol_among n (false ∷ b) rest some =
-    subst (λ (l : List Bool). IsRestOf l (end_of_line ++ rest)) (sym (one_more n b)) (eol_among (suc n) b rest some)
+    subst (λ (l : List Bool). IsRestOf l (eol_bits ++ rest)) (sym (one_more n b)) (eol_among (suc n) b rest some)
 eol_among n (true ∷ b) rest some = by_count (eol_among 0 b rest) (cases_lt n 11)
   where
-    by_count : (after_eol 0 b ≡ Some rest → IsRestOf b (end_of_line ++ rest)) → (n < 11) ⊎ (11 ≤ n)
-        → IsRestOf (replicate n false ++ true ∷ b) (end_of_line ++ rest)
+    by_count : (after_eol 0 b ≡ Some rest → IsRestOf b (eol_bits ++ rest)) → (n < 11) ⊎ (11 ≤ n)
+        → IsRestOf (replicate n false ++ true ∷ b) (eol_bits ++ rest)
     by_count later_eol (inl few) =
         let later : after_eol 0 b ≡ Some rest = grind (arith, some, few, nat_tests) in
-        rest_of_rest (replicate n false ++ true ∷ b) b (end_of_line ++ rest) (after_one n b) (later_eol later)
+        rest_of_rest (replicate n false ++ true ∷ b) b (eol_bits ++ rest) (after_one n b) (later_eol later)
     by_count later_eol (inr enough) =
         let here : b ≡ rest = grind (arith, some, enough, nat_tests) in
         let eleven : n - (n - 11) ≡ 11 = omega (arith, enough) in (
@@ -66,28 +66,29 @@ eol_among n (true ∷ b) rest some = by_count (eol_among 0 b rest) (cases_lt n 1
           omega (arith, length_zeros n (true ∷ b)),
           drop_zeros (n - 11) n (true ∷ b) (omega arith)
               ∙ ap (λ k. replicate k false ++ true ∷ b) eleven
-              ∙ ap (λ (l : List Bool). end_of_line ++ l) here,
+              ∙ ap (λ (l : List Bool). eol_bits ++ l) here,
         )
 
--- where the next row is due is among the bits from which its EOL is looked for
-due_among : (coding : Coding) (from due : List Bool) → next_due coding from ≡ Some due → IsRestOf from due
-due_among Mh from due some = by_rest (after_eol 0 from) refl some
+-- where the next row begins is among the bits from which its EOL is looked for
+due_among : (coding : Coding) (from upcoming : List Bool) → resync_point coding from ≡ Some upcoming
+    → IsRestOf from upcoming
+due_among Mh from upcoming some = by_rest (after_eol 0 from) refl some
   where
     by_rest : (found : Option (List Bool)) → after_eol 0 from ≡ found
-        → option_map (λ rest. end_of_line ++ rest) found ≡ Some due → IsRestOf from due
+        → option_map (λ rest. eol_bits ++ rest) found ≡ Some upcoming → IsRestOf from upcoming
     by_rest None is some = cc
     by_rest (Some rest) is some =
-        let same : end_of_line ++ rest ≡ due = cc in
+        let same : eol_bits ++ rest ≡ upcoming = cc in
         subst (IsRestOf from) same (eol_among 0 from rest is)
-due_among Mr from due some = by_rest (after_eol 0 from) refl some
+due_among Mr from upcoming some = by_rest (after_eol 0 from) refl some
   where
     by_rest : (found : Option (List Bool)) → after_eol 0 from ≡ found
-        → option_map (λ rest. end_of_line ++ rest) found ≡ Some due → IsRestOf from due
+        → option_map (λ rest. eol_bits ++ rest) found ≡ Some upcoming → IsRestOf from upcoming
     by_rest None is some = cc
     by_rest (Some rest) is some =
-        let same : end_of_line ++ rest ≡ due = cc in
+        let same : eol_bits ++ rest ≡ upcoming = cc in
         subst (IsRestOf from) same (eol_among 0 from rest is)
-due_among Mmr from due some = cc
+due_among Mmr from upcoming some = cc
 
 -- an EOL is looked for among the bits of a lost row
 sought_among : (coding : Coding) (i : ℕ) (b from : List Bool) → IsSoughtFrom coding i b from → IsRestOf b from
@@ -97,42 +98,43 @@ sought_among coding i b from sought = subst (IsRestOf b) sought (by (read_start 
     all_dropped [] = refl
     all_dropped (bit ∷ b) = all_dropped b
 
-    by : (start : Read Dimension StripFault) → read_start coding i b ≡ start → IsRestOf b (sought_from b start)
+    by : (start : Read Dimension StripFault) → read_start coding i b ≡ start → IsRestOf b (resync_from b start)
     by (read dimension codes) at = start_among coding i b dimension codes at
     by (failed DataEnds) at = (length b, omega arith, all_dropped b)
     by (failed fault) at = all_of b
 
 -- after a lost row
 lost_among : (old new : SalvageState) (fault : StripFault) (rows : ℕ) → IsAfterLost old fault rows new
-    → new.row < new.form.rows → IsRestOf old.due new.due
-lost_among old new fault rows (from, sought, after) due =
-    by_due (next_due old.form.coding from) refl after
+    → new.row < new.form.rows → IsRestOf old.upcoming new.upcoming
+lost_among old new fault rows (from, sought, after) upcoming =
+    by_due (resync_point old.form.coding from) refl after
   where
-    by_due : (o : Option (List Bool)) → next_due old.form.coding from ≡ o
+    by_due : (o : Option (List Bool)) → resync_point old.form.coding from ≡ o
         → MatchOption o
         ((rows ≡ old.form.rows - old.row) × (new.form ≡ old.form) × (new.row ≡ old.form.rows))
         (λ b. (rows ≡ 1) × (new ≡ record {
           form = old.form;
           row = old.row + 1;
-          due = b;
+          upcoming = b;
           reference = white_row old.form.width;
           before = Some fault;
         }))
-        → IsRestOf old.due new.due
+        → IsRestOf old.upcoming new.upcoming
     by_due None is all =
         let same : new.form.rows ≡ old.form.rows = ap (λ (f : StripForm). f.rows) all.1 in
-        absurd (omega (arith, due, all.2, same))
+        absurd (omega (arith, upcoming, all.2, same))
     by_due (Some b) is one =
-        let due_is : new.due ≡ b = ap (λ (s : SalvageState). s.due) one.1 in
-        subst (IsRestOf old.due) (sym due_is)
-        (rest_of_rest old.due from b (sought_among old.form.coding old.row old.due from sought)
+        let due_is : new.upcoming ≡ b = ap (λ (s : SalvageState). s.upcoming) one.1 in
+        subst (IsRestOf old.upcoming) (sym due_is)
+        (rest_of_rest old.upcoming from b (sought_among old.form.coding old.row old.upcoming from sought)
         (due_among old.form.coding from b is))
 
 -- after each row
 pub due_rows_stand : ((form : StripForm) (i : ℕ) (reference : List Colour) → ReadsLinesOneWay form i reference)
     → DueRowsStandInStrips
-due_rows_stand reads old new Found finds due =
-    (reads old.form old.row old.reference).rest old.due 0 new.reference new.due finds.read.line
-due_rows_stand reads old new (Lost fault rows) (within, is_lost, after) due = lost_among old new fault rows after due
-due_rows_stand reads old new (Unended rows) (row, rest, over, eol_due, below, after) due =
-    lost_among old new _ rows after due
+due_rows_stand reads old new Found finds upcoming =
+    (reads old.form old.row old.reference).rest old.upcoming 0 new.reference new.upcoming finds.read.line
+due_rows_stand reads old new (Lost fault rows) (within, is_lost, after) upcoming = lost_among old new fault rows after
+    upcoming
+due_rows_stand reads old new (Unterminated rows) (row, rest, over, eol_due, below, after) upcoming =
+    lost_among old new _ rows after upcoming

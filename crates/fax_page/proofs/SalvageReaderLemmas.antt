@@ -6,7 +6,7 @@ use Rattle.std.specs.Prelude.{◌⊎◌, MatchOption}
 use Rattle.fax_bits.specs.declared.Colour.{Colour}
 use Rattle.fax_page.specs.Lines.{StripForm, StripFault, IsLine}
 use Rattle.fax_page.specs.Lines.{white_row}
-use Rattle.fax_page.specs.Salvage.{BeginsTwoDimensional, IsReadOver, IsEolDue, IsLostFor, next_due}
+use Rattle.fax_page.specs.Salvage.{IsTwoDimensionalNext, IsReadFrom, NeedsEol, IsLostBecause, resync_point}
 use Rattle.fax_page.specs.views.Reader.{StripState, bits_left, ReadsRow, IsAdvance}
 use Rattle.fax_page.specs.views.Salvage.{SalvageState, IsAfterLost, FindsRow}
 use Rattle.fax_page.specs.code.Salvage.{PassesLost, SaysUnended, IsOverLost, salvaging}
@@ -14,8 +14,8 @@ use Rattle.fax_page.specs.code.Salvage.{PassesLost, SaysUnended, IsOverLost, sal
 -- a row that is coded over no lost one
 read_over : (form : StripForm) (i : ℕ) (before : Option StripFault) (reference : List Colour) (b : List Bool)
     (row : List Colour) (rest : List Bool)
-    → (before ≡ None) ⊎ (BeginsTwoDimensional form.coding i b → ⊥) → IsLine form i reference b row rest
-    → IsReadOver form i before reference b row rest
+    → (before ≡ None) ⊎ (IsTwoDimensionalNext form.coding i b → ⊥) → IsLine form i reference b row rest
+    → IsReadFrom form i before reference b row rest
 read_over form i before reference b row rest over line = record {
   line = line;
   alone = λ lost two. elim over [ inl none ↦ lost none | inr not_two ↦ not_two two ];
@@ -25,14 +25,15 @@ module _ (old : StripState) (before : Option StripFault) (over : IsOverLost (sal
   abbrev state : SalvageState
   state = salvaging old before
 
-  alone : old.row < old.form.rows → (before ≡ None) ⊎ (BeginsTwoDimensional old.form.coding old.row (bits_left old) → ⊥)
-  alone due = over (λ all. omega (arith, due, all))
+  alone : old.row < old.form.rows → (before ≡ None) ⊎ (IsTwoDimensionalNext old.form.coding old.row (bits_left old) → ⊥)
+  alone upcoming = over (λ all. omega (arith, upcoming, all))
 
   -- the row is read
   pub row_over : (new : StripState) → ReadsRow old new
-      → IsReadOver old.form old.row before old.reference (bits_left old) new.reference (bits_left new)
+      → IsReadFrom old.form old.row before old.reference (bits_left old) new.reference (bits_left new)
   row_over new reads =
-      read_over old.form old.row before old.reference (bits_left old) new.reference (bits_left new) (alone reads.due)
+      read_over old.form old.row before old.reference (bits_left old) new.reference (bits_left new) (alone
+      reads.upcoming)
       reads.line
 
   pub finds_row : (new : StripState) → ReadsRow old new → SaysUnended new.form new.row (bits_left new) false
@@ -40,22 +41,28 @@ module _ (old : StripState) (before : Option StripFault) (over : IsOverLost (sal
   finds_row new reads ended =
       let rows : new.form.rows ≡ old.form.rows = ap (λ (f : StripForm). f.rows) reads.same_form in
       record {
-        due = reads.due;
+        upcoming = reads.upcoming;
         read = row_over new reads;
-        ended = λ due below. ended (rw reads.same_form due.0) (λ all. omega (arith, due.1, all, reads.next_row, rows))
+        ended = λ upcoming below. ended (rw reads.same_form upcoming.0) (λ all. omega (
+          arith,
+          upcoming.1,
+          all,
+          reads.next_row,
+          rows,
+        ))
             below;
         new_is = grind (arith, reads.next_row, reads.same_form);
       }
 
   -- the row cannot be read
   pub lost_for : (fault : StripFault) (new : StripState) → old.fault ≡ None → IsAdvance old (Err fault) new
-      → (old.row < old.form.rows) × IsLostFor old.form old.row before old.reference (bits_left old) fault
+      → (old.row < old.form.rows) × IsLostBecause old.form old.row before old.reference (bits_left old) fault
   lost_for fault new none (inl again) = absurd (grind (arith, none, again))
-  lost_for fault new none (inr meets) = (meets.due, inr (alone meets.due, meets.cause))
+  lost_for fault new none (inr meets) = (meets.upcoming, inr (alone meets.upcoming, meets.cause))
 
--- an EOL is due after the row that was read, and something else follows it
+-- an EOL is expected after the row that was read, and something else follows it
 pub is_unended : (old new : StripState) → ReadsRow old new → SaysUnended new.form new.row (bits_left new) true
-    → IsEolDue old.form old.row × BeginsBelowEleven (bits_left new)
+    → NeedsEol old.form old.row × BeginsBelowEleven (bits_left new)
 is_unended old new reads says = grind (arith, reads, says)
 
 -- a fault leaves the form and the bytes as they were
@@ -68,24 +75,24 @@ weaker : {A : Type 0} (o : Option A) (P R : Type 0) (Q S : A → Type 0) → (P 
 weaker None P R Q S none some h = none h
 weaker (Some x) P R Q S none some h = some x h
 
--- before the next row that is due, or at the strip's end
+-- before the next row, or at the strip's end
 abbrev pub Goes : StripForm → ℕ → StripFault → ℕ → StripState → List Bool → Type 0
-Goes form i fault rows new due =
+Goes form i fault rows new upcoming =
     (rows ≡ 1) × (salvaging new (Some fault) ≡ record {
       form = form;
       row = i + 1;
-      due = due;
+      upcoming = upcoming;
       reference = white_row form.width;
       before = Some fault;
     })
 
-due_next : (form : StripForm) (i : ℕ) (fault : StripFault) (rows : ℕ) (new : StripState) (due : List Bool)
+due_next : (form : StripForm) (i : ℕ) (fault : StripFault) (rows : ℕ) (new : StripState) (upcoming : List Bool)
     → new.form ≡ form
-    → (rows ≡ 1) × (new.row ≡ i + 1) × (new.reference ≡ white_row form.width) × (bits_left new ≡ due)
-    → Goes form i fault rows new due
-due_next form i fault rows new due same_form h = grind arith
+    → (rows ≡ 1) × (new.row ≡ i + 1) × (new.reference ≡ white_row form.width) × (bits_left new ≡ upcoming)
+    → Goes form i fault rows new upcoming
+due_next form i fault rows new upcoming same_form h = grind arith
 
--- rows are lost from the one that was due on
+-- rows are lost from the next one on
 pub after_lost : (old middle new : StripState) (before : Option StripFault) (fault : StripFault) (rows : ℕ)
     → (middle.form ≡ old.form) × (middle.bytes ≡ old.bytes) → PassesLost middle old.row old.place rows new
     → IsAfterLost (salvaging old before) fault rows (salvaging new (Some fault))
@@ -94,6 +101,6 @@ after_lost old middle new before fault rows same passed =
     rw (same.0, same.1) at passed in (
       moved.0,
       moved.1,
-      weaker (next_due old.form.coding moved.0) _ _ _ _ (λ all. (all.0, moved.2, all.1))
-          (λ due is. due_next old.form old.row fault rows new due moved.2 is) moved.4,
+      weaker (resync_point old.form.coding moved.0) _ _ _ _ (λ all. (all.0, moved.2, all.1))
+          (λ upcoming is. due_next old.form old.row fault rows new upcoming moved.2 is) moved.4,
     )

@@ -10,7 +10,7 @@ use Rattle.fax_page.specs.Strip.{AreLines}
 use Rattle.fax_page.specs.reads.Lines.{StripRead, read_lines}
 
 abbrev AreRead : StripForm → ℕ → List Colour → List Bool → StripRead → Type 0
-AreRead form i reference b strip = AreLines form i reference b strip.rows strip.end strip.left
+AreRead form i reference b strip = AreLines form i reference b strip.rows strip.end strip.remaining
 
 -- rows are read as they are defined
 by_line : (n : ℕ) (form : StripForm) (i : ℕ) (reference : List Colour) (b : List Bool)
@@ -18,40 +18,41 @@ by_line : (n : ℕ) (form : StripForm) (i : ℕ) (reference : List Colour) (b : 
     → i < form.rows → read_line form i reference b ≡ r
     → ((row : List Colour) (rest : List Bool) → AreRead form (i + 1) row rest (read_lines n form (i + 1) row rest))
     → AreRead form i reference b (elim r [
-      | failed fault ↦ record { rows = []; end = Some fault; left = b }
+      | failed fault ↦ record { rows = []; end = Some fault; remaining = b }
       | read row rest ↦ let more = read_lines n form (i + 1) row rest in
-          record { rows = row ∷ more.rows; end = more.end; left = more.left }
+          record { rows = row ∷ more.rows; end = more.end; remaining = more.remaining }
     ])
-by_line n form i reference b (read row rest) due line more = (rest, due, line, more row rest)
-by_line n form i reference b (failed fault) due cause more = (refl, due, cause)
+by_line n form i reference b (read row rest) upcoming line more = (rest, upcoming, line, more row rest)
+by_line n form i reference b (failed fault) upcoming cause more = (refl, upcoming, cause)
 
 pub lines_are : (n : ℕ) (form : StripForm) (i : ℕ) (reference : List Colour) (b : List Bool) → i + n ≡ form.rows
     → AreRead form i reference b (read_lines n form i reference b)
-lines_are zero form i reference b due = (refl, omega (arith, due))
-lines_are (suc n) form i reference b due =
-    by_line n form i reference b (read_line form i reference b) (omega (arith, due))
+lines_are zero form i reference b upcoming = (refl, omega (arith, upcoming))
+lines_are (suc n) form i reference b upcoming =
+    by_line n form i reference b (read_line form i reference b) (omega (arith, upcoming))
     refl
-    (λ row rest. lines_are n form (i + 1) row rest (omega (arith, due)))
+    (λ row rest. lines_are n form (i + 1) row rest (omega (arith, upcoming)))
 
 -- and what is defined is read
 pub lines_of : (n : ℕ) (form : StripForm) (i : ℕ) (reference : List Colour) (b : List Bool)
     (rows : List (List Colour))
-    (end : Option StripFault) (left : List Bool) → i + n ≡ form.rows → AreLines form i reference b rows end left
-    → read_lines n form i reference b ≡ record { rows = rows; end = end; left = left }
-lines_of zero form i reference b [] None left due lines = cc (lines.0)
-lines_of zero form i reference b [] (Some fault) left due lines = absurd (omega (arith, due, lines.1))
-lines_of zero form i reference b (row ∷ rows) end left due lines = absurd (omega (arith, due, lines.1))
-lines_of (suc n) form i reference b [] None left due lines = absurd (omega (arith, due, lines.1))
-lines_of (suc n) form i reference b [] (Some fault) left due lines =
+    (end : Option StripFault) (remaining : List Bool) → i + n ≡ form.rows
+    → AreLines form i reference b rows end remaining
+    → read_lines n form i reference b ≡ record { rows = rows; end = end; remaining = remaining }
+lines_of zero form i reference b [] None remaining upcoming lines = cc (lines.0)
+lines_of zero form i reference b [] (Some fault) remaining upcoming lines = absurd (omega (arith, upcoming, lines.1))
+lines_of zero form i reference b (row ∷ rows) end remaining upcoming lines = absurd (omega (arith, upcoming, lines.1))
+lines_of (suc n) form i reference b [] None remaining upcoming lines = absurd (omega (arith, upcoming, lines.1))
+lines_of (suc n) form i reference b [] (Some fault) remaining upcoming lines =
     rw (lines.2, read_lines) (cc (lines.0))
-lines_of (suc n) form i reference b (row ∷ rows) end left due lines =
+lines_of (suc n) form i reference b (row ∷ rows) end remaining upcoming lines =
     rw (lines.2, read_lines)
-    (let more = lines_of n form (i + 1) row lines.0 rows end left (omega (arith, due)) lines.3 in cc (more))
+    (let more = lines_of n form (i + 1) row lines.0 rows end remaining (omega (arith, upcoming)) lines.3 in cc (more))
 
 pub strips_graph : StripsAreReadByFunctions
-strips_graph form b rows end left = (
-  lines_of form.rows form 0 (white_row form.width) b rows end left (omega arith),
+strips_graph form b rows end remaining = (
+  lines_of form.rows form 0 (white_row form.width) b rows end remaining (omega arith),
   λ at.
-      subst (λ strip. AreLines form 0 (white_row form.width) b strip.rows strip.end strip.left) at
+      subst (λ strip. AreLines form 0 (white_row form.width) b strip.rows strip.end strip.remaining) at
       (lines_are form.rows form 0 (white_row form.width) b (omega arith)),
 )

@@ -1,4 +1,4 @@
--- Rows that nobody counted, and that are read to a good end, are all found.
+-- Rows of a strip of unknown height, and that are read to a good end, are all found.
 use Rattle.fax_page.specs.code.Starts.{BeginsBelowEleven}
 use Rattle.std.proofs.Common.{ap}
 use Rattle.std.proofs.Common.{◌≡◌, ℕ, ◌+◌, List, [], ◌∷◌, ◌++◌, length, map, Bool, true, refl, sym}
@@ -8,9 +8,9 @@ use Rattle.fax_bits.specs.declared.Colour.{Colour}
 use Rattle.fax_page.specs.declared.StripFault.TheVariants.{DataEnds, EndMarker}
 use Rattle.fax_page.specs.Lines.{Coding, IsCause, Mh, Mmr, Mr, StripFault, next_one}
 use Rattle.fax_page.specs.Lines.{StripForm, white_row}
-use Rattle.fax_page.specs.Strip.{AreLines, HasEndMark, end_of_line}
-use Rattle.fax_page.specs.Uncounted.{DataEnd, EndsSo, HasDataEnd, IsUncounted, Marked, RowsEnd, uncounted}
-use Rattle.fax_page.specs.Salvage.{IsEolDue, found}
+use Rattle.fax_page.specs.Strip.{AreLines, HasEndMark, eol_bits}
+use Rattle.fax_page.specs.Uncounted.{DataEnd, RowsEndAs, HasDataEnd, IsUncounted, Marked, RowsEnd, uncounted}
+use Rattle.fax_page.specs.Salvage.{NeedsEol, found}
 use Rattle.fax_page.specs.LeftUncounted.{AreLeftUncounted, IsLeftUncounted}
 use Rattle.fax_page.specs.laws.Strips.{ReadsLinesOneWay}
 use Rattle.fax_page.proofs.EndFollowingLaws.{mark_is_cause, zeros_are_cause}
@@ -21,11 +21,12 @@ use Rattle.fax_page.proofs.StartLaws.{below_is_not_zeros, eol_is_not_below}
 mark_has_eol : (coding : Coding) (b : List Bool) → HasEndMark coding b → BeginsBelowEleven b → ⊥
 mark_has_eol Mh b mark below = eol_is_not_below b mark.1.0 mark.1.1 below
 mark_has_eol Mr b mark below = eol_is_not_below b (true ∷ mark.1.0) mark.1.1 below
-mark_has_eol Mmr b mark below = eol_is_not_below b (end_of_line ++ mark.0) (ap (next_one 0) mark.1) below
+mark_has_eol Mmr b mark below = eol_is_not_below b (eol_bits ++ mark.0) (ap (next_one 0) mark.1) below
 
 -- rows end well after so many
 abbrev EndsWell : Coding → ℕ → List Bool → RowsEnd → Type 0
-EndsWell coding i left end = (HasEndMark coding left × (end ≡ Marked)) ⊎ (HasDataEnd i left × (end ≡ DataEnd))
+EndsWell coding i remaining end = (HasEndMark coding remaining × (end ≡ Marked)) ⊎ (HasDataEnd i remaining × (end
+    ≡ DataEnd))
 
 module _ (reads : (form : StripForm) (i : ℕ) (reference : List Colour) → ReadsLinesOneWay form i reference)
     (form : StripForm) (end : RowsEnd) where
@@ -35,38 +36,38 @@ module _ (reads : (form : StripForm) (i : ℕ) (reference : List Colour) → Rea
   ends_here i b (inr (ends, is)) = rw is (ends, λ many. cc)
 
   not_lacking : (i : ℕ) (row : List Colour) (rest : List Bool) (rows : List (List Colour)) (stop : Option StripFault)
-      (left : List Bool) → AreLines form (i + 1) row rest rows stop left
-      → EndsWell form.coding (i + 1 + length rows) left end → IsEolDue form i → BeginsBelowEleven rest → ⊥
-  not_lacking i row rest [] stop left lines ends due below = at_end (left_is stop lines) ends
+      (remaining : List Bool) → AreLines form (i + 1) row rest rows stop remaining
+      → EndsWell form.coding (i + 1 + length rows) remaining end → NeedsEol form i → BeginsBelowEleven rest → ⊥
+  not_lacking i row rest [] stop remaining lines ends upcoming below = at_end (left_is stop lines) ends
     where
-      left_is : (stop : Option StripFault) → AreLines form (i + 1) row rest [] stop left → rest ≡ left
+      left_is : (stop : Option StripFault) → AreLines form (i + 1) row rest [] stop remaining → rest ≡ remaining
       left_is None lines = lines.0
       left_is (Some fault) lines = lines.0
 
-      at_end : rest ≡ left → EndsWell form.coding (i + 1 + 0) left end → ⊥
-      at_end is (inl (mark, _)) = mark_has_eol form.coding left mark (subst BeginsBelowEleven is below)
-      at_end is (inr (data_end, _)) = below_is_not_zeros left (subst BeginsBelowEleven is below) data_end.1
-  not_lacking i row rest (other ∷ rows) stop left (after, low, line, lines) ends due below =
-      none_begins form i row rest other after line due.0 below
+      at_end : rest ≡ remaining → EndsWell form.coding (i + 1 + 0) remaining end → ⊥
+      at_end is (inl (mark, _)) = mark_has_eol form.coding remaining mark (subst BeginsBelowEleven is below)
+      at_end is (inr (data_end, _)) = below_is_not_zeros remaining (subst BeginsBelowEleven is below) data_end.1
+  not_lacking i row rest (other ∷ rows) stop remaining (after, low, line, lines) ends upcoming below =
+      none_begins form i row rest other after line upcoming.0 below
 
   all_found : (i : ℕ) (reference : List Colour) (b : List Bool) (rows : List (List Colour)) (stop : Option StripFault)
-      (left : List Bool) → AreLines form i reference b rows stop left
-      → EndsWell form.coding (i + length rows) left end
+      (remaining : List Bool) → AreLines form i reference b rows stop remaining
+      → EndsWell form.coding (i + length rows) remaining end
       → AreLeftUncounted form i None reference b (map (λ row. found row) rows) end
-  all_found i reference b [] stop left lines ends = subst (λ c. AreLeftUncounted form i None reference c [] end)
-      (sym (left_is stop lines)) (ends_here i left (none_more ends))
+  all_found i reference b [] stop remaining lines ends = subst (λ c. AreLeftUncounted form i None reference c [] end)
+      (sym (left_is stop lines)) (ends_here i remaining (none_more ends))
     where
-      left_is : (stop : Option StripFault) → AreLines form i reference b [] stop left → b ≡ left
+      left_is : (stop : Option StripFault) → AreLines form i reference b [] stop remaining → b ≡ remaining
       left_is None lines = lines.0
       left_is (Some fault) lines = lines.0
 
-      none_more : EndsWell form.coding (i + 0) left end → EndsWell form.coding i left end
-      none_more ends = let same : i + 0 ≡ i = omega arith in subst (λ n. EndsWell form.coding n left end) same ends
-  all_found i reference b (row ∷ rows) stop left (rest, low, line, lines) ends =
+      none_more : EndsWell form.coding (i + 0) remaining end → EndsWell form.coding i remaining end
+      none_more ends = let same : i + 0 ≡ i = omega arith in subst (λ n. EndsWell form.coding n remaining end) same ends
+  all_found i reference b (row ∷ rows) stop remaining (rest, low, line, lines) ends =
       let none : (fault : StripFault) → IsCause form i reference b fault → ⊥ =
       λ fault. (reads form i reference).line.answer_has_no_fault b row rest fault line in
       let count : i + length (row ∷ rows) ≡ i + 1 + length rows = omega arith in
-      let after = subst (λ n. EndsWell form.coding n left end) count ends in (
+      let after = subst (λ n. EndsWell form.coding n remaining end) count ends in (
         rest,
         (
           low,
@@ -77,8 +78,8 @@ module _ (reads : (form : StripForm) (i : ℕ) (reference : List Colour) → Rea
           ],
         ),
         record { line = line; alone = λ lost_before. absurd (lost_before refl) },
-        not_lacking i row rest rows stop left lines after,
-        all_found (i + 1) row rest rows stop left lines after,
+        not_lacking i row rest rows stop remaining lines after,
+        all_found (i + 1) row rest rows stop remaining lines after,
       )
 
 pub whole_uncounted : ((form : StripForm) (i : ℕ) (reference : List Colour) → ReadsLinesOneWay form i reference)
@@ -87,10 +88,11 @@ pub whole_uncounted : ((form : StripForm) (i : ℕ) (reference : List Colour) �
     → IsLeftUncounted (uncounted form) b (map (λ row. found row) rows) end
 whole_uncounted reads form b rows end is good =
     let all : length rows ≡ 0 + length rows = omega arith in
-    all_found reads (uncounted form) end 0 (white_row form.width) b rows is.stop is.left is.lines
-    (subst (λ n. EndsWell form.coding n is.left end) all (well end is.ends good))
+    all_found reads (uncounted form) end 0 (white_row form.width) b rows is.stop is.remaining is.lines
+    (subst (λ n. EndsWell form.coding n is.remaining end) all (well end is.ends good))
   where
-    well : (end : RowsEnd) → EndsSo form.coding (length rows) is.left is.stop end → (end ≡ Marked) ⊎ (end ≡ DataEnd)
-        → EndsWell form.coding (length rows) is.left end
+    well : (end : RowsEnd) → RowsEndAs form.coding (length rows) is.remaining is.stop end → (end ≡ Marked) ⊎ (end
+        ≡ DataEnd)
+        → EndsWell form.coding (length rows) is.remaining end
     well end ends (inl marked) = inl ((rw marked at ends), marked)
     well end ends (inr data_end) = inr ((rw data_end at ends), data_end)

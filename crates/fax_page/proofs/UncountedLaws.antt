@@ -1,4 +1,4 @@
--- Rows that nobody counted are read in one way, where rows are.
+-- Rows of a strip of unknown height are read in one way, where rows are.
 use Rattle.fax_page.specs.Lines.{start_by}
 use Rattle.fax_page.proofs.StartLaws.{at_zeros}
 use Rattle.std.proofs.Common.{ap}
@@ -8,12 +8,12 @@ use Rattle.std.proofs.Common.{subst, arith, inl, inr, Option, Some, None}
 use Rattle.std.proofs.lemmas.Bool.{cases_lt}
 use Rattle.fax_bits.specs.declared.Colour.{Colour}
 use Rattle.fax_bits.specs.Bits.{IsAllZeros}
-use Rattle.fax_bits.specs.views.Source.{HasZerosAhead}
+use Rattle.fax_bits.specs.views.Source.{HasLeadingZeros}
 use Rattle.fax_page.specs.declared.Dimension.TheVariants.{TwoDimensional}
 use Rattle.fax_page.specs.declared.StripFault.TheVariants.{DataEnds, EndMarker}
 use Rattle.fax_page.specs.Lines.{Coding, Mh, Mr, Mmr, StripFault, StripForm, IsCause, IsLine, white_row}
-use Rattle.fax_page.specs.Strip.{AreLines, end_bits, end_of_line, most_rows}
-use Rattle.fax_page.specs.Uncounted.{EndsSo, IsUncounted}
+use Rattle.fax_page.specs.Strip.{AreLines, end_bits, eol_bits, most_rows}
+use Rattle.fax_page.specs.Uncounted.{RowsEndAs, IsUncounted}
 use Rattle.fax_page.specs.Uncounted.{uncounted}
 use Rattle.fax_page.specs.laws.StripGraphs.{EndsAreToldByAFunction, StripsAreReadByFunctions}
 use Rattle.fax_page.specs.reads.Lines.{StripRead, read_strip}
@@ -24,35 +24,36 @@ use Rattle.fax_page.proofs.StartLaws.{no_one}
 use Rattle.fax_page.proofs.StripLaws.{one_strip, strip_is}
 
 -- a 1 is not in zeros
-pub one_is_not_zeros : (b : List Bool) (zeros : ℕ) → HasZerosAhead b zeros → IsAllZeros b → ⊥
+pub one_is_not_zeros : (b : List Bool) (zeros : ℕ) → HasLeadingZeros b zeros → IsAllZeros b → ⊥
 one_is_not_zeros b zeros ahead all = no_one zeros all.0 ahead.0 (sym ahead.1 ∙ all.1)
 
 module _ (strips : StripsAreReadByFunctions) (ended : EndsAreToldByAFunction) where
-  -- any bits are read in one way as rows that nobody counted
+  -- any bits are read in one way as rows of a strip of unknown height
   pub uncounted_reads_one_way : (form : StripForm) → ReadsUncountedOneWay form
   uncounted_reads_one_way form b = record {
     items = read.rows;
-    end = rows_end form.coding (length read.rows) read.left read.end;
+    end = rows_end form.coding (length read.rows) read.remaining read.end;
     is = record {
-      left = read.left;
+      remaining = read.remaining;
       stop = read.end;
       lines = strip_is strips (uncounted form) b;
-      ends = (ended form.coding (length read.rows) read.left read.end _).1 refl;
+      ends = (ended form.coding (length read.rows) read.remaining read.end _).1 refl;
     };
     one = λ others other is.
-        let same = one_strip strips (uncounted form) b others read.rows is.stop read.end is.left read.left is.lines
+        let same = one_strip strips (uncounted form) b others read.rows is.stop read.end is.remaining read.remaining
+        is.lines
         (strip_is strips (uncounted form) b) in
-        let told = (ended form.coding (length others) is.left is.stop other).0 is.ends in
-        (same.0, sym told ∙ same_end others read.rows is.stop read.end is.left read.left same);
+        let told = (ended form.coding (length others) is.remaining is.stop other).0 is.ends in
+        (same.0, sym told ∙ same_end others read.rows is.stop read.end is.remaining read.remaining same);
   }
     where
       read : StripRead
       read = read_strip (uncounted form) b
 
-      same_end : (rows others : List (List Colour)) (stop end : Option StripFault) (left after : List Bool)
-          → (rows ≡ others) × (stop ≡ end) × (left ≡ after)
-          → rows_end form.coding (length rows) left stop ≡ rows_end form.coding (length others) after end
-      same_end rows others stop end left after same = cc (same.0, same.1, same.2)
+      same_end : (rows others : List (List Colour)) (stop end : Option StripFault) (remaining after : List Bool)
+          → (rows ≡ others) × (stop ≡ end) × (remaining ≡ after)
+          → rows_end form.coding (length rows) remaining stop ≡ rows_end form.coding (length others) after end
+      same_end rows others stop end remaining after same = cc (same.0, same.1, same.2)
 
 -- a row is the same in a strip of other rows
 abbrev pub of_rows : StripForm → ℕ → StripForm
@@ -66,22 +67,23 @@ module _ (form : StripForm) (from to : ℕ) where
 
   -- rows are all rows of a strip of as many, whatever stops them
   pub all_lines : (i : ℕ) (reference : List Colour) (b : List Bool) (rows : List (List Colour))
-      (stop : Option StripFault) (left : List Bool)
-      → i + length rows ≡ to → AreLines (of_rows form from) i reference b rows stop left
-      → AreLines (of_rows form to) i reference b rows None left
-  all_lines i reference b [] None left count lines = (lines.0, omega (arith, count))
-  all_lines i reference b [] (Some fault) left count lines = (lines.0, omega (arith, count))
-  all_lines i reference b (row ∷ rows) stop left count lines = (
+      (stop : Option StripFault) (remaining : List Bool)
+      → i + length rows ≡ to → AreLines (of_rows form from) i reference b rows stop remaining
+      → AreLines (of_rows form to) i reference b rows None remaining
+  all_lines i reference b [] None remaining count lines = (lines.0, omega (arith, count))
+  all_lines i reference b [] (Some fault) remaining count lines = (lines.0, omega (arith, count))
+  all_lines i reference b (row ∷ rows) stop remaining count lines = (
     lines.0,
     omega (arith, count),
     line_of i reference b row lines.0 lines.2,
-    all_lines (i + 1) row lines.0 rows stop left (omega (arith, count)) lines.3,
+    all_lines (i + 1) row lines.0 rows stop remaining (omega (arith, count)) lines.3,
   )
 
 pub uncounted_rows_are_a_strip : UncountedRowsAreAStrip
 uncounted_rows_are_a_strip form b rows end is = record {
-  left = is.left;
-  lines = all_lines form most_rows (length rows) 0 (white_row form.width) b rows is.stop is.left (omega arith) is.lines;
+  remaining = is.remaining;
+  lines = all_lines form most_rows (length rows) 0 (white_row form.width) b rows is.stop is.remaining (omega arith)
+      is.lines;
 }
 
 -- after a written strip and fill no row more is read
@@ -104,22 +106,22 @@ written_cause form i reference Mmr zeros is = (
     TwoDimensional,
     end_bits Mmr ++ replicate zeros false,
     rw is refl,
-    inl (inl (true ∷ end_of_line ++ replicate zeros false, refl, refl)),
+    inl (inl (true ∷ eol_bits ++ replicate zeros false, refl, refl)),
   )),
 )
 
 pub written_ends_so : (coding : Coding) (row zeros : ℕ) (stop : Option StripFault) → 0 < row
-    → EndsSo coding row (end_bits coding ++ replicate zeros false) stop (written_end coding)
+    → RowsEndAs coding row (end_bits coding ++ replicate zeros false) stop (written_end coding)
 written_ends_so Mh row zeros stop some = (some, (zeros, refl))
 written_ends_so Mr row zeros stop some = (some, (zeros, refl))
 written_ends_so Mmr row zeros stop some = (replicate zeros false, refl)
 
 -- the rows of a strip, where a strip may have more: what stops them
 pub record HasStop (form : StripForm) (to i : ℕ) (reference : List Colour) (b : List Bool) (rows : List (List Colour))
-    (left : List Bool)
+    (remaining : List Bool)
     : Type 0 where
   pub stop : Option StripFault
-  pub lines : AreLines (of_rows form to) i reference b rows stop left
+  pub lines : AreLines (of_rows form to) i reference b rows stop remaining
 
 module _ (form : StripForm) (to zeros : ℕ) (few : form.rows ≤ to) where
   abbrev after : List Bool
@@ -128,9 +130,9 @@ module _ (form : StripForm) (to zeros : ℕ) (few : form.rows ≤ to) where
   stop_after : (i : ℕ) (reference : List Colour) → i ≡ form.rows → HasStop form to i reference after [] after
   stop_after i reference all =
       elim (cases_lt i to) [
-        | inl due ↦
+        | inl upcoming ↦
             let cause = written_cause (of_rows form to) i reference form.coding zeros refl in
-            record { stop = Some cause.0; lines = (refl, due, cause.1) }
+            record { stop = Some cause.0; lines = (refl, upcoming, cause.1) }
         | inr many ↦ record { stop = None; lines = (refl, omega (arith, many, all, few)) }
       ]
 
@@ -150,7 +152,7 @@ module _ (form : StripForm) (to zeros : ℕ) (few : form.rows ≤ to) where
         );
       }
 
--- a written strip is read as its rows, though nobody counts them
+-- a written strip is read as its rows, though their number is unknown
 pub written_is_uncounted : (form : StripForm) (b : List Bool) (rows : List (List Colour)) (zeros : ℕ)
     → form.rows ≤ most_rows
     → 0 < length rows
@@ -159,7 +161,7 @@ pub written_is_uncounted : (form : StripForm) (b : List Bool) (rows : List (List
 written_is_uncounted form b rows zeros few some lines =
     let found = written_stop form most_rows zeros few 0 (white_row form.width) b rows lines in
     record {
-      left = end_bits form.coding ++ replicate zeros false;
+      remaining = end_bits form.coding ++ replicate zeros false;
       stop = found.stop;
       lines = found.lines;
       ends = written_ends_so form.coding (length rows) zeros found.stop some;

@@ -118,6 +118,6 @@ module _ (one_read : OneDimensionalBitsAreRead) (two_read : TwoDimensionalBitsAr
 pub coded_bits_back : OneDimensionalBitsAreRead → TwoDimensionalBitsAreRead → CodedBitsAreRead
 coded_bits_back one_read two_read form k rows more limits fit =
     record {
-      left = end_bits form.coding ++ more;
+      remaining = end_bits form.coding ++ more;
       lines = coded_lines_back one_read two_read form limits k rows more fit;
     }

@@ -21,16 +21,16 @@ most_rows = 1000000
 -- then those that are left: the strip has all its rows, or this fault is in the way of the next
 abbrev pub AreLines : StripForm → ℕ → List Colour → List Bool → List (List Colour)
     → Option StripFault → List Bool → Type 0
-AreLines form i reference b [] None left = (b ≡ left) × (i ≡ form.rows)
-AreLines form i reference b [] (Some fault) left =
-    (b ≡ left) × (i < form.rows) × IsCause form i reference b fault
-AreLines form i reference b (row ∷ rows) end left =
+AreLines form i reference b [] None remaining = (b ≡ remaining) × (i ≡ form.rows)
+AreLines form i reference b [] (Some fault) remaining =
+    (b ≡ remaining) × (i < form.rows) × IsCause form i reference b fault
+AreLines form i reference b (row ∷ rows) end remaining =
     (rest : List Bool) × (i < form.rows) × IsLine form i reference b row rest
-    × AreLines form (i + 1) row rest rows end left
+    × AreLines form (i + 1) row rest rows end remaining
 
 -- EOL: eleven zeros and a 1 (T.4, section 4.1.2)
-abbrev pub end_of_line : List Bool
-end_of_line = replicate 11 false ++ true ∷ []
+abbrev pub eol_bits : List Bool
+eol_bits = replicate 11 false ++ true ∷ []
 
 -- how row i of a strip is written: in MR one-dimensional exactly where i is a multiple of k
 -- (T.4, section 4.2.1.1; T.6, section 2.2.1)
@@ -49,9 +49,9 @@ fill_zeros false before = 0
 -- what is written before a row's codes, after so many bits of the strip
 -- (T.4, sections 4.1.2, 4.1.3, 4.2.2 and 4.2.3; T.6, section 2.2.1)
 abbrev pub start_bits : Coding → Bool → ℕ → Dimension → List Bool
-start_bits Mh aligned before dimension = replicate (fill_zeros aligned before) false ++ end_of_line
+start_bits Mh aligned before dimension = replicate (fill_zeros aligned before) false ++ eol_bits
 start_bits Mr aligned before dimension =
-    replicate (fill_zeros aligned before) false ++ (end_of_line ++ tag_bit dimension ∷ [])
+    replicate (fill_zeros aligned before) false ++ (eol_bits ++ tag_bit dimension ∷ [])
 start_bits Mmr aligned before dimension = []
 
 -- a row's codes as they are written (T.4, sections 4.1.1 and 4.2.1.3.3)
@@ -76,7 +76,7 @@ coded_lines form k before i reference (row ∷ rows) =
 
 -- what is written after the last row: two EOLs in MMR (T.6, End-of-facsimile block), else nothing
 abbrev pub end_bits : Coding → List Bool
-end_bits Mmr = end_of_line ++ end_of_line
+end_bits Mmr = eol_bits ++ eol_bits
 end_bits _ = []
 
 -- the bits of a strip as it is written (T.4, section 4.2.1.1; T.6, section 2.2.1)
@@ -89,22 +89,22 @@ coded_strip form k rows = packed form.order (coded_bits form k rows)
 
 -- one EOL of a return to control: in MR the tag bit of a one-dimensional row follows it
 -- (T.4, sections 4.1.4 and 4.2.4; that any fill may stand before it is the note's own rule)
-abbrev pub IsReturnEol : Coding → List Bool → List Bool → Type 0
-IsReturnEol Mh b rest = next_one 0 b ≡ ends_line rest
-IsReturnEol Mr b rest = next_one 0 b ≡ ends_line (tag_bit OneDimensional ∷ rest)
-IsReturnEol Mmr b rest = ⊥
+abbrev pub IsRtcEol : Coding → List Bool → List Bool → Type 0
+IsRtcEol Mh b rest = next_one 0 b ≡ ends_line rest
+IsRtcEol Mr b rest = next_one 0 b ≡ ends_line (tag_bit OneDimensional ∷ rest)
+IsRtcEol Mmr b rest = ⊥
 
 -- so many of them stand one after another (T.4, sections 4.1.4 and 4.2.4)
-abbrev pub AreReturnEols : Coding → ℕ → List Bool → List Bool → Type 0
-AreReturnEols coding zero b rest = b ≡ rest
-AreReturnEols coding (suc n) b rest =
-    (middle : List Bool) × IsReturnEol coding b middle × AreReturnEols coding n middle rest
+abbrev pub AreRtcEols : Coding → ℕ → List Bool → List Bool → Type 0
+AreRtcEols coding zero b rest = b ≡ rest
+AreRtcEols coding (suc n) b rest =
+    (middle : List Bool) × IsRtcEol coding b middle × AreRtcEols coding n middle rest
 
 -- the bits begin with an end mark: in MH and MR a return to control, six EOLs (T.4, sections 4.1.4
 -- and 4.2.4), in MMR the end of a facsimile block (T.6, End-of-facsimile block)
 abbrev pub IsEndMark : Coding → List Bool → List Bool → Type 0
 IsEndMark Mmr b rest = b ≡ end_bits Mmr ++ rest
-IsEndMark coding b rest = AreReturnEols coding 6 b rest
+IsEndMark coding b rest = AreRtcEols coding 6 b rest
 
 abbrev pub HasEndMark : Coding → List Bool → Type 0
 HasEndMark coding b = (rest : List Bool) × IsEndMark coding b rest
@@ -120,25 +120,26 @@ HasOtherCodes form i reference b row rest =
 
 -- from row i on, over this reference, the codes of some row are others than those that T.4 chooses
 -- (T.4, sections 4.1.1 and 4.2.1.3.3)
-abbrev pub HasOtherChoice : StripForm → ℕ → List Colour → List Bool → List (List Colour) → Type 0
-HasOtherChoice form i reference b [] = ⊥
-HasOtherChoice form i reference b (row ∷ rows) =
+abbrev pub HasNonCanonicalRow : StripForm → ℕ → List Colour → List Bool → List (List Colour)
+    → Type 0
+HasNonCanonicalRow form i reference b [] = ⊥
+HasNonCanonicalRow form i reference b (row ∷ rows) =
     (rest : List Bool) × IsLine form i reference b row rest
-    × (HasOtherCodes form i reference b row rest ⊎ HasOtherChoice form (i + 1) row rest rows)
+    × (HasOtherCodes form i reference b row rest ⊎ HasNonCanonicalRow form (i + 1) row rest rows)
 
 -- the notes on a strip of which all rows can be read, by what is left after them, and what of it
 -- stands after the end mark: all of it where it begins with none
 pub record IsNotedAs (form : StripForm) (b : List Bool) (rows : List (List Colour))
     (notes : StripNotes) : Type 0 where
-  pub left : List Bool
-  pub lines : AreLines form 0 (white_row form.width) b rows None left
+  pub remaining : List Bool
+  pub lines : AreLines form 0 (white_row form.width) b rows None remaining
   pub after : List Bool
-  pub after_end : IsEndMark form.coding left after
-      ⊎ ((HasEndMark form.coding left → ⊥) × (after ≡ left))
+  pub after_end : IsEndMark form.coding remaining after
+      ⊎ ((HasEndMark form.coding remaining → ⊥) × (after ≡ remaining))
   pub no_end_of_block : IsTrue notes.no_end_of_block ↔
-      ((form.coding ≡ Mmr) × (HasEndMark form.coding left → ⊥))
+      ((form.coding ≡ Mmr) × (HasEndMark form.coding remaining → ⊥))
   pub return_to_control : IsTrue notes.return_to_control ↔
-      ((form.coding ≢ Mmr) × HasEndMark form.coding left)
+      ((form.coding ≢ Mmr) × HasEndMark form.coding remaining)
   pub data_after_end : IsTrue notes.data_after_end ↔ Contains after true
-  pub not_t4_choice : IsTrue notes.not_t4_choice ↔ HasOtherChoice form 0 (white_row form.width) b
-      rows
+  pub not_t4_choice : IsTrue notes.not_t4_choice ↔
+      HasNonCanonicalRow form 0 (white_row form.width) b rows

@@ -16,7 +16,7 @@ pub fn strips_are_read_by_functions()
     ensures { Graphs.StripsAreReadByFunctions }
 {}
 
-/// How rows end that nobody counted is what a function says, in any coding.
+/// How the rows of a strip of unknown height end is what a function says, in any coding.
 pub fn ends_are_told_by_a_function()
     ensures { Graphs.EndsAreToldByAFunction }
 {}
@@ -98,8 +98,8 @@ pub fn strips_are_written_row_by_row()
     ensures { WritesRowByRow }
 {}
 
-/// Any bits are read in one way as rows that nobody counted, in any coding: they have one list of
-/// rows, of at most 1,000,000, and one end.
+/// Any bits are read in one way as rows of a strip of unknown height, in any coding: they have one
+/// list of rows, of at most 1,000,000, and one end.
 pub fn uncounted_rows_are_read_in_one_way()
     ensures { (form : StripForm) → Uncounted.ReadsUncountedOneWay form }
 {
@@ -107,13 +107,14 @@ pub fn uncounted_rows_are_read_in_one_way()
     ends_are_told_by_a_function();
 }
 
-/// Rows that nobody counted, however they end, are all rows of a strip of as many, and no fault.
+/// Rows of a strip of unknown height, however they end, are all rows of a strip of as many, and no
+/// fault.
 pub fn uncounted_rows_are_a_strip()
     ensures { Uncounted.UncountedRowsAreAStrip }
 {}
 
-/// The bytes of a written strip are its rows, though nobody counts them: in MMR up to its end mark,
-/// in MH and MR up to the end of the data.
+/// The bytes of a written strip are its rows, though their number is unknown: in MMR up to its end
+/// mark, in MH and MR up to the end of the data.
 pub fn coded_strips_are_read_uncounted()
     ensures { Uncounted.CodedStripsAreUncounted }
 {
@@ -140,8 +141,8 @@ pub fn strips_are_read_in_pieces()
     rows_stay_whatever_follows();
 }
 
-/// How rows end that nobody counted stays, whatever bits follow: with an end mark, or with a fault
-/// that is neither the end of the data nor an end marker.
+/// How the rows of a strip of unknown height end stays, whatever bits follow: with an end mark, or
+/// with a fault that is neither the end of the data nor an end marker.
 pub fn ends_stay_whatever_follows()
     ensures { Following.EndsStayWhateverFollows }
 {
@@ -163,13 +164,13 @@ pub fn rows_before_a_fault_are_found()
     strips_are_salvaged_in_one_way();
 }
 
-/// In MH and MR the row after a lost one is due at the next EOL, whatever bits that hold no EOL
+/// In MH and MR the row after a lost one begins at the next EOL, whatever bits that hold no EOL
 /// stand before it: so what is found after a lost row is the same whatever its bits were.
 pub fn lost_bits_do_not_matter()
     ensures { Salvage.LostBitsDoNotMatter }
 {}
 
-/// A row that is due after one that is found or lost begins among the bits from that one on.
+/// The next row after one that is found or lost begins among the bits from that one on.
 pub fn due_rows_stand_in_strips()
     ensures { Salvage.DueRowsStandInStrips }
 {
@@ -181,10 +182,10 @@ pub fn whole_strips_are_found()
     ensures { Salvage.FindsWholeStrips }
 {}
 
-/// What is left of rows that nobody counted is found and lost in one way, from any row on, in any
-/// coding: one list and one end. It is what is left of the first rows of a strip with as many as
-/// there may be, and where the rows are read to an end mark, or to the end of the data, all are
-/// found.
+/// What is left of rows of a strip of unknown height is found and lost in one way, from any row on,
+/// in any coding: one list and one end. It is what is left of the first rows of a strip with as
+/// many as there may be, and where the rows are read to an end mark, or to the end of the data, all
+/// are found.
 pub fn uncounted_rows_are_left_in_one_way()
     ensures { LeavesUncounted }
 {
@@ -192,8 +193,8 @@ pub fn uncounted_rows_are_left_in_one_way()
     strips_are_salvaged_in_one_way();
 }
 
-/// What is left of a damaged strip, and of damaged rows that nobody counted, with their end, is
-/// what functions read of its bits (T.4, sections 4.1.2 and 4.2.2; T.6, section 2.2.1).
+/// What is left of a damaged strip, and of damaged rows of a strip of unknown height, with their
+/// end, is what functions read of its bits (T.4, sections 4.1.2 and 4.2.2; T.6, section 2.2.1).
 pub fn damaged_strips_are_read_by_functions()
     ensures { Graphs.DamagedStripsAreReadByFunctions }
 {}

@@ -5,7 +5,7 @@ pub mod laws;
 mod lines;
 mod notes;
 mod reader;
-mod rows_in_turn;
+mod row_buffers;
 mod salvage_reader;
 mod uncounted;
 mod uncounted_salvage;
@@ -16,7 +16,7 @@ pub use notes::{NotesFault, NotesReader, StripNotes, UncountedNotes, strip_notes
 pub use reader::StripReader;
 pub use salvage_reader::{SalvageReader, Salvaged};
 use thiserror::Error;
-pub use uncounted::{end_of_rows, may_be_end_mark};
+pub use uncounted::{classify_end, may_be_end_mark};
 pub use uncounted_salvage::UncountedSalvage;
 pub use writer::StripWriter;
 
@@ -66,10 +66,10 @@ pub struct StripForm {
 /// Why a row of a strip could not be read: the first fault in its bits.
 #[derive(Clone, Copy, Debug, PartialEq, Eq, Error)]
 pub enum StripFault {
-    /// The bits end where the row's start, its first code or another of its codes is due.
+    /// The bits end where the row's start, its first code or another of its codes is expected.
     #[error("the data ends within a row")]
     DataEnds,
-    /// No code of the table that is due begins so.
+    /// No code of the table that is expected begins so.
     #[error("no code begins so")]
     BadCode,
     /// The prefix of codes that T.4 leaves to extensions.
@@ -84,7 +84,7 @@ pub enum StripFault {
     /// The row begins without an EOL (T.4, section 4.1.2).
     #[error("no EOL stands before a row")]
     MissingEol,
-    /// Eleven zeros stand where a row's first code is due, as in a return to control (T.4,
+    /// Eleven zeros stand where a row's first code is expected, as in a return to control (T.4,
     /// section 4.1.4) or at the end of a facsimile block (T.6).
     #[error("the page ends before its last row")]
     EndMarker,
@@ -92,7 +92,7 @@ pub enum StripFault {
 
 /// The row before a place inside a strip.
 #[derive(Clone, Copy)]
-pub enum RowBefore<'a> {
+pub enum ReferenceRow<'a> {
     /// A white one, as before a strip's first row (T.4, section 4.2.1.1; T.6, section 2.2.1).
     White,
     /// The one with these longest runs, white first: 0 where it begins black (T.4, section 4.1.1).
@@ -121,16 +121,16 @@ impl From<Memory> for PlaceFault {
     }
 }
 
-/// How rows end that nobody counted, as in data with no file around them.
+/// How the rows of a strip of unknown height end, as in data with no file around them.
 #[derive(Clone, Copy, Debug, PartialEq, Eq)]
 pub enum RowsEnd {
-    /// An end mark stands where the next row is due: in MH and MR a return to control (T.4,
+    /// An end mark stands where the next row begins: in MH and MR a return to control (T.4,
     /// sections 4.1.4 and 4.2.4), in MMR the end of a facsimile block (T.6).
     Marked,
     /// The data end after a whole row: nothing is left, or zeros alone, which are fill (T.4,
     /// section 4.1.3).
     DataEnd,
-    /// The row that is due cannot be read, for this cause.
+    /// The next row cannot be read, for this cause.
     Fault(StripFault),
     /// There are 1,000,000 rows, the most that a strip has, and after them neither an end mark nor
     /// the end of the data.

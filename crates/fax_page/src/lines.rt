@@ -12,7 +12,7 @@ ghost use Rattle.fax_page.specs.code.Notes.{IsChosen};
 ghost use Rattle.fax_page.specs.code.Salvage.{IsFirstEol, IsNextEol};
 
 use crate::{Coding, Dimension, StripFault, StripForm};
-use fax_rows::{BitSource, Row, RowFault, read_1d, read_2d, take_white_1d, take_white_2d};
+use fax_rows::{BitSource, Row, RowFault, read_1d, read_2d, skip_white_1d, skip_white_2d};
 
 /// How many zeros an EOL has before its 1 (T.4, section 4.1.2). More are fill.
 const EOL_ZEROS: u64 = 11;
@@ -20,19 +20,19 @@ const EOL_ZEROS: u64 = 11;
 /// Reads fill and an EOL (T.4, sections 4.1.2 and 4.1.3), which some rows may lack.
 #[inline(always)]
 pub(crate) fn read_eol(source: &mut BitSource, may_lack: bool) -> Result<(), StripFault>
-    ensures ok { OnOk result (HasEol may_lack source.old.left source.new.left) }
-    ensures err { IfErr result (HasNoEol may_lack source.old.left) }
+    ensures ok { OnOk result (HasEol may_lack source.old.remaining source.new.remaining) }
+    ensures err { IfErr result (HasNoEol may_lack source.old.remaining) }
     ensures same_end { KeepsEnd source.old source.new }
 {
-    if source.past_zeros_and_one(EOL_ZEROS as u32) {
+    if source.skip_zeros_and_one(EOL_ZEROS as u32) {
         return Ok(());
     }
     match source.zeros() {
         None => Err(StripFault::DataEnds),
         Some(zeros) if zeros >= EOL_ZEROS => {
-            // For the proof: the 1 after the zeros is one of the bits that are left.
-            let left = source.remaining();
-            prove!(zeros < left);
+            // For the proof: the 1 after the zeros is one of the remaining bits.
+            let remaining = source.remaining();
+            prove!(zeros < remaining);
             source.skip(zeros + 1);
             Ok(())
         }
@@ -45,8 +45,8 @@ pub(crate) fn read_eol(source: &mut BitSource, may_lack: bool) -> Result<(), Str
 #[inline(always)]
 fn read_tag(source: &mut BitSource) -> Result<Dimension, StripFault>
     ensures ok { IfOk result (λ dimension.
-        source.old.left ≡ Lines.tag_bit dimension ∷ source.new.left) }
-    ensures err { IfErr result (λ fault. (source.old.left ≡ []) × (fault ≡ StripFault.DataEnds)) }
+        source.old.remaining ≡ Lines.tag_bit dimension ∷ source.new.remaining) }
+    ensures err { IfErr result (λ fault. (source.old.remaining ≡ []) × (fault ≡ StripFault.DataEnds)) }
     ensures same_end { KeepsEnd source.old source.new }
 {
     if source.remaining() == 0 {
@@ -61,7 +61,7 @@ fn read_tag(source: &mut BitSource) -> Result<Dimension, StripFault>
     }
 }
 
-/// Reads what stands before the first code of row `i`, and answers how the row is coded: an EOL in
+/// Reads what stands before the first code of row `i`, and returns how the row is coded: an EOL in
 /// MH, an EOL and a tag bit in MR, nothing in MMR (T.4, sections 4.1.2 and 4.2.2; T.6, section
 /// 2.2.1).
 #[inline(always)]
@@ -70,8 +70,8 @@ pub(crate) fn read_start(
     coding: Coding,
     i: u32,
 ) -> Result<Dimension, StripFault>
-    ensures read { Lines.read_start coding i source.old.left
-        ≡ answered (λ dimension. dimension) result source.new.left }
+    ensures read { Lines.read_start coding i source.old.remaining
+        ≡ answered (λ dimension. dimension) result source.new.remaining }
     ensures same_end { KeepsEnd source.old source.new }
 {
     match coding {
@@ -91,14 +91,14 @@ pub(crate) fn read_start(
 /// Whether a row's first code may be read: an EOL in its place is the end of the page (T.4,
 /// section 4.1.4), or of the facsimile block (T.6).
 fn check_first_code(source: &BitSource) -> Result<(), StripFault>
-    ensures ok { OnOk result (BeginsBelowEleven source.now.left) }
-    ensures err { IfErr result (λ fault. IsFirstCodeFault source.now.left fault) }
+    ensures ok { OnOk result (BeginsBelowEleven source.now.remaining) }
+    ensures err { IfErr result (λ fault. IsFirstCodeFault source.now.remaining fault) }
 {
     // In MH the search for the EOL comes before this: so a strip without a single 1 where a row is
-    // due is `DataEnds` there, with eleven zeros or more too. In MMR no EOL is sought, and eleven
-    // zeros or more are `EndMarker`.
-    // Eleven zeros settle it, and what follows them is not looked at.
-    if source.again().take(0, EOL_ZEROS as u32) {
+    // expected is `DataEnds` there, with eleven zeros or more too. In MMR no EOL is sought, and
+    // eleven zeros or more are `EndMarker`. Eleven zeros settle it, and what follows them is not
+    // looked at.
+    if source.fork().take(0, EOL_ZEROS as u32) {
         return Err(StripFault::EndMarker);
     }
     match source.zeros() {
@@ -107,10 +107,10 @@ fn check_first_code(source: &BitSource) -> Result<(), StripFault>
     }
 }
 
-/// Why there is no row whose codes are due here, where their reader stopped for this cause. Codes
-/// that it takes begin with a first code, so that one is looked for only then.
+/// Why there is no row whose codes are expected here, where their reader stopped for this cause.
+/// Codes that it takes begin with a first code, so that one is looked for only then.
 pub(crate) fn stop(codes: &BitSource, cause: RowFault) -> StripFault
-    ensures { IsStop codes.now.left cause result }
+    ensures { IsStop codes.now.remaining cause result }
 {
     match check_first_code(codes) {
         Ok(()) => cause.into(),
@@ -118,21 +118,21 @@ pub(crate) fn stop(codes: &BitSource, cause: RowFault) -> StripFault
     }
 }
 
-/// Goes past the codes of a row that is white as its reference row is, where they are seen to be
-/// next and T.4's choice, and answers whether they are. Else the source stays.
+/// Skips the codes of a row that is white as its reference row is, where they are seen to be next
+/// and T.4's choice, and returns whether they are. Else the source stays.
 #[inline(always)]
 pub(crate) fn take_white(source: &mut BitSource, dimension: Dimension, reference: &Row) -> bool
     ensures row { IsTrue result
-        → Lines.read_codes dimension (length reference.now) reference.now source.old.left
-        ≡ read reference.now source.new.left }
+        → Lines.read_codes dimension (length reference.now) reference.now source.old.remaining
+        ≡ read reference.now source.new.remaining }
     ensures chosen { IsTrue result
-        → IsChosen dimension reference.now source.old.left reference.now source.new.left }
-    ensures unchanged { result ≡ false → source.new.left ≡ source.old.left }
+        → IsChosen dimension reference.now source.old.remaining reference.now source.new.remaining }
+    ensures unchanged { result ≡ false → source.new.remaining ≡ source.old.remaining }
     ensures same_end { KeepsEnd source.old source.new }
 {
     match dimension {
-        Dimension::OneDimensional => take_white_1d(source, reference),
-        Dimension::TwoDimensional => take_white_2d(source, reference),
+        Dimension::OneDimensional => skip_white_1d(source, reference),
+        Dimension::TwoDimensional => skip_white_2d(source, reference),
     }
 }
 
@@ -145,8 +145,8 @@ pub(crate) fn read_codes(
     row: &mut Row,
 ) -> Result<(), RowFault>
     requires same_width { length reference.now ≡ length row.old }
-    ensures read { Lines.read_codes dimension (length row.old) reference.now source.old.left
-        ≡ answered (λ _. row.new) result source.new.left }
+    ensures read { Lines.read_codes dimension (length row.old) reference.now source.old.remaining
+        ≡ answered (λ _. row.new) result source.new.remaining }
     ensures same_width { length row.new ≡ length row.old }
     ensures same_end { KeepsEnd source.old source.new }
 {
@@ -168,8 +168,8 @@ pub(crate) enum LineStop {
 #[cold]
 #[inline(never)]
 pub(crate) fn line_fault(mut start: BitSource, form: StripForm, i: u32, why: LineStop) -> StripFault
-    ensures { (reference : List Colour) → IsLineStop form i reference start.entry.left why
-        → Lines.IsCause form i reference start.entry.left result }
+    ensures { (reference : List Colour) → IsLineStop form i reference start.entry.remaining why
+        → Lines.IsCause form i reference start.entry.remaining result }
 {
     // A copy of the source there would be made at each row.
     match why {
@@ -185,8 +185,8 @@ pub(crate) fn line_fault(mut start: BitSource, form: StripForm, i: u32, why: Lin
 /// 4.1.2).
 #[inline(always)]
 pub(crate) fn begins_below_eleven(source: &BitSource) -> bool
-    ensures yes { IsTrue result → BeginsBelowEleven source.now.left }
-    ensures no { result ≡ false → BeginsBelowEleven source.now.left → ⊥ }
+    ensures yes { IsTrue result → BeginsBelowEleven source.now.remaining }
+    ensures no { result ≡ false → BeginsBelowEleven source.now.remaining → ⊥ }
 {
     match source.zeros() {
         Some(zeros) => zeros < EOL_ZEROS,
@@ -200,8 +200,8 @@ fn first_eol(source: &mut BitSource) -> Option<u64>
 {
     while let Some(zeros) = source.zeros() {
         // For the proof, as in `read_eol`.
-        let left = source.remaining();
-        prove!(zeros < left);
+        let remaining = source.remaining();
+        prove!(zeros < remaining);
         source.skip(zeros + 1);
         if zeros >= EOL_ZEROS {
             return Some(source.place() - (EOL_ZEROS + 1));
@@ -218,7 +218,7 @@ pub(crate) fn next_eol(start: BitSource, coding: Coding, i: u32) -> Option<u64>
     if let Coding::Mmr = coding {
         return None;
     }
-    let mut from = start.again();
+    let mut from = start.fork();
     match read_start(&mut from, coding, i) {
         Ok(_dimension) => first_eol(&mut from),
         Err(fault) => match fault {

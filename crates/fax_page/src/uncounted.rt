@@ -1,4 +1,4 @@
-//! How rows end that nobody counted.
+//! How the rows of a strip of unknown height end.
 ghost use Rattle.std.specs.Prelude.{◌≡◌, ◌≢◌, false, IsTrue};
 ghost use Rattle.fax_page.specs.declared.Coding.TheVariants.{Mmr};
 ghost use Rattle.fax_page.specs.Uncounted as Spec;
@@ -11,8 +11,8 @@ use fax_rows::BitSource;
 
 /// Whether after so many rows, and at least one, nothing but fill is left.
 fn has_data_end(source: &BitSource, rows: u32) -> bool
-    ensures ends { IsTrue result → Spec.HasDataEnd rows source.now.left }
-    ensures more { result ≡ false → Spec.HasDataEnd rows source.now.left → ⊥ }
+    ensures ends { IsTrue result → Spec.HasDataEnd rows source.now.remaining }
+    ensures more { result ≡ false → Spec.HasDataEnd rows source.now.remaining → ⊥ }
 {
     if rows == 0 {
         return false;
@@ -23,9 +23,9 @@ fn has_data_end(source: &BitSource, rows: u32) -> bool
     }
 }
 
-/// What stands where an EOL of a return to control is due.
+/// What stands where an EOL of a return to control is expected.
 #[derive(Clone, Copy)]
-enum MarkEol {
+enum RtcEol {
     /// One stands there.
     Whole,
     /// Bits that follow may make one.
@@ -34,24 +34,24 @@ enum MarkEol {
     Other,
 }
 
-/// Goes after an EOL of a return to control, and answers what stands where it is due (T.4, sections
-/// 4.1.4 and 4.2.4).
-fn take_mark_eol(source: &mut BitSource, coding: Coding) -> MarkEol
+/// Goes after an EOL of a return to control, and returns what stands where it is expected (T.4,
+/// sections 4.1.4 and 4.2.4).
+fn skip_rtc_eol(source: &mut BitSource, coding: Coding) -> RtcEol
     requires with_eols { coding ≢ Mmr }
-    ensures { Code.IsMarkEol coding source.old.left result source.new.left }
+    ensures { Code.IsMarkEol coding source.old.remaining result source.new.remaining }
 {
     if let Err(fault) = read_eol(source, false) {
         return if fault == StripFault::DataEnds {
-            MarkEol::Cut
+            RtcEol::Cut
         } else {
-            MarkEol::Other
+            RtcEol::Other
         };
     }
     match coding {
-        Coding::Mh | Coding::Mmr => MarkEol::Whole,
-        Coding::Mr if source.take(1, 1) => MarkEol::Whole,
-        Coding::Mr if source.remaining() == 0 => MarkEol::Cut,
-        Coding::Mr => MarkEol::Other,
+        Coding::Mh | Coding::Mmr => RtcEol::Whole,
+        Coding::Mr if source.take(1, 1) => RtcEol::Whole,
+        Coding::Mr if source.remaining() == 0 => RtcEol::Cut,
+        Coding::Mr => RtcEol::Other,
     }
 }
 
@@ -59,15 +59,15 @@ fn take_mark_eol(source: &mut BitSource, coding: Coding) -> MarkEol
 /// 4.1.4).
 fn may_be_return_to_control(source: &BitSource, coding: Coding) -> bool
     requires with_eols { coding ≢ Mmr }
-    ensures may { IsTrue result → Code.MayHaveReturn coding source.now.left }
-    ensures never { result ≡ false → Code.MayHaveReturn coding source.now.left → ⊥ }
+    ensures may { IsTrue result → Code.MayHaveReturn coding source.now.remaining }
+    ensures never { result ≡ false → Code.MayHaveReturn coding source.now.remaining → ⊥ }
 {
-    let mut ahead = source.again();
+    let mut ahead = source.fork();
     for _eol in 0..RETURN_EOLS {
-        match take_mark_eol(&mut ahead, coding) {
-            MarkEol::Whole => {}
-            MarkEol::Cut => return true,
-            MarkEol::Other => return false,
+        match skip_rtc_eol(&mut ahead, coding) {
+            RtcEol::Whole => {}
+            RtcEol::Cut => return true,
+            RtcEol::Other => return false,
         }
     }
     true
@@ -78,31 +78,32 @@ fn may_be_return_to_control(source: &BitSource, coding: Coding) -> bool
 #[cold]
 #[inline(never)]
 pub fn may_be_end_mark(source: &BitSource, coding: Coding) -> bool
-    ensures may { IsTrue result → Spec.MayHaveEndMark coding source.now.left }
-    ensures never { result ≡ false → Spec.MayHaveEndMark coding source.now.left → ⊥ }
+    ensures may { IsTrue result → Spec.MayHaveEndMark coding source.now.remaining }
+    ensures never { result ≡ false → Spec.MayHaveEndMark coding source.now.remaining → ⊥ }
 {
     match coding {
         Coding::Mh | Coding::Mr => may_be_return_to_control(source, coding),
         Coding::Mmr => {
             let bits = source.remaining().min(u64::from(END_OF_BLOCK_BITS)) as u32;
             source
-                .again()
+                .fork()
                 .take(END_OF_BLOCK >> (END_OF_BLOCK_BITS - bits), bits)
         }
     }
 }
 
-/// How so many rows end that nobody counted, whose data go on at this source: where this fault is
-/// in the way of the next row, or none is, since they are as many as a strip has at most.
+/// How so many rows of a strip of unknown height end, whose data continue at this source: where
+/// this fault is in the way of the next row, or none is, since they are as many as a strip has at
+/// most.
 #[cold]
 #[inline(never)]
-pub fn end_of_rows(
+pub fn classify_end(
     source: &BitSource,
     coding: Coding,
     rows: u32,
     fault: Option<StripFault>,
 ) -> RowsEnd
-    ensures { Spec.EndsSo coding rows source.now.left fault result }
+    ensures { Spec.RowsEndAs coding rows source.now.remaining fault result }
 {
     if let Some(_after) = after_end(source, coding) {
         return RowsEnd::Marked;

@@ -1,4 +1,4 @@
-//! What is left of rows that nobody counted, where they are damaged.
+//! What is left of rows of a strip of unknown height, where they are damaged.
 ghost use Rattle.std.specs.Prelude.{◌≡◌, ◌≤◌, length, IfOk};
 ghost use Rattle.fax_bits.specs.Bits.{bits};
 ghost use Rattle.fax_page.specs.Strip.{most_rows};
@@ -13,14 +13,14 @@ use fax_rows::{Memory, Row};
 use std::alloc::Global;
 use std::marker::Model;
 
-/// Goes through rows that nobody counted, and that may be damaged, row by row, up to their end.
-/// Contracts see how far they are gone through.
+/// Goes through rows of a strip of unknown height, and that may be damaged, row by row, up to their
+/// end. Contracts see how far they are gone through.
 #[derive(Drop)]
 pub struct UncountedSalvage<'a> {
     reader: SalvageReader<'a>,
     /// How many rows were passed.
     row: u32,
-    /// The fault with which the rows end, once a row was lost after which none is due.
+    /// The fault with which the rows end, once a row was lost after which none is expected.
     over: Option<StripFault>,
 }
 
@@ -42,7 +42,7 @@ fn alone(salvaged: Salvaged) -> Salvaged
     match salvaged {
         Salvaged::Found => Salvaged::Found,
         Salvaged::Lost { fault, .. } => Salvaged::Lost { fault, rows: 1 },
-        Salvaged::Unended { .. } => Salvaged::Unended { rows: 1 },
+        Salvaged::Unterminated { .. } => Salvaged::Unterminated { rows: 1 },
     }
 }
 
@@ -53,7 +53,7 @@ fn fault_of(salvaged: Salvaged) -> Option<StripFault>
     match salvaged {
         Salvaged::Found => None,
         Salvaged::Lost { fault, .. } => Some(fault),
-        Salvaged::Unended { .. } => Some(StripFault::MissingEol),
+        Salvaged::Unterminated { .. } => Some(StripFault::MissingEol),
     }
 }
 
@@ -104,12 +104,12 @@ impl<'a> UncountedSalvage<'a> {
         self.over = None;
     }
 
-    /// What became of the row that is due. It takes no memory. A row that is found is the reference
-    /// then. Each lost row is answered alone.
+    /// What became of the next row. It takes no memory. A row that is found is the reference then.
+    /// Each lost row is returned alone.
     ///
     /// # Errors
     ///
-    /// How the rows end, where none is due. Each later call answers the same.
+    /// How the rows end, where none is expected. Each later call returns the same.
     pub fn next_salvaged(&mut self) -> Result<Salvaged, RowsEnd>
         ensures { IsUncountedStep self.old result self.new }
     {
@@ -128,7 +128,7 @@ impl<'a> UncountedSalvage<'a> {
         Ok(alone(salvaged))
     }
 
-    /// Passes all rows that are left, and answers how they end. It takes no memory.
+    /// Passes all rows that are left, and returns how they end. It takes no memory.
     pub fn pass_all(&mut self) -> RowsEnd
         ensures { PassesAll self.old result self.new }
     {

@@ -184,7 +184,7 @@ impl StripWriter {
     ///
     /// `Memory` where a growth was refused, and at each later call.
     pub fn put_row(&mut self, row: &Row) -> Result<(), Memory>
-        requires due { self.old.row < self.old.form.rows }
+        requires upcoming { self.old.row < self.old.form.rows }
         requires width { length row.now ≡ self.old.form.width }
         ensures { IsPutRow self.old row.now result self.new }
     {

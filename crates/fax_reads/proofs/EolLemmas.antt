@@ -14,7 +14,7 @@ use Rattle.fax_bits.specs.declared.mode_codes.ModeCode.TheVariants as mode
 use Rattle.fax_bits.specs.declared.run_codes.RunCode.{RunCode}
 use Rattle.fax_bits.specs.declared.run_codes.RunCode.TheVariants.{Extension, MakeUp, Terminating}
 use Rattle.fax_bits.specs.Bits.{IsAllZeros, code_bits}
-use Rattle.fax_bits.specs.Codes.{IsRun, Spells, Takes, bits_of}
+use Rattle.fax_bits.specs.Codes.{IsRun, DecodesAll, Decodes, bits_of}
 use Rattle.fax_bits.specs.Tables.{black_make_up, black_runs, black_terminating, common_make_up, modes, run_table}
 use Rattle.fax_bits.specs.Tables.{white_make_up, white_runs, white_terminating}
 use Rattle.fax_rows.specs.Rows.{Position, beginning, other}
@@ -174,27 +174,27 @@ run_listed colour entry listed =
     passes_listed run_passes (run_table colour) entry (runs_pass colour) listed
 
 terminating_codes : (colour : Colour) (b : List Bool) (n : ℕ) (rest : List Bool)
-    → Takes (run_table colour) b (Terminating n) rest → AreCodes b rest
+    → Decodes (run_table colour) b (Terminating n) rest → AreCodes b rest
 terminating_codes colour b n rest taken =
     let good = terminating_free taken.entry.meaning (is_free (bits_of taken.entry)) n taken.means
     (run_listed colour taken.entry taken.listed) in
     (bits_of taken.entry, taken.spelled, free_where (bits_of taken.entry) good)
 
 make_up_codes : (colour : Colour) (b : List Bool) (n : ℕ) (rest : List Bool)
-    → Takes (run_table colour) b (MakeUp n) rest → AreCodes b rest
+    → Decodes (run_table colour) b (MakeUp n) rest → AreCodes b rest
 make_up_codes colour b n rest taken =
     let good = make_up_free taken.entry.meaning (is_free (bits_of taken.entry)) n taken.means
     (run_listed colour taken.entry taken.listed) in
     (bits_of taken.entry, taken.spelled, free_where (bits_of taken.entry) good)
 
-mode_codes : (b : List Bool) (meaning : ModeCode) (rest : List Bool) → Takes modes b meaning rest → AreCodes b rest
+mode_codes : (b : List Bool) (meaning : ModeCode) (rest : List Bool) → Decodes modes b meaning rest → AreCodes b rest
 mode_codes b meaning rest taken =
     let good = passes_listed mode_passes modes taken.entry modes_pass taken.listed in
     (bits_of taken.entry, taken.spelled, free_where (bits_of taken.entry) good)
 
 -- runs
 spelled_codes : (colour : Colour) (make_up : List ℕ) (last : ℕ) (b rest : List Bool)
-    → Spells (run_table colour) b (map MakeUp make_up ++ Terminating last ∷ []) rest → AreCodes b rest
+    → DecodesAll (run_table colour) b (map MakeUp make_up ++ Terminating last ∷ []) rest → AreCodes b rest
 spelled_codes colour [] last b rest (middle, taken, same) =
     codes_and b middle rest (terminating_codes colour b last middle taken) (no_codes middle rest same)
 spelled_codes colour (n ∷ make_up) last b rest (middle, taken, more) =
@@ -218,14 +218,14 @@ row_codes : (dimension : Dimension) (width : ℕ) (reference : List Colour) (b :
     (rest : List Bool) → read_codes dimension width reference b ≡ read row rest → AreCodes b rest
 row_codes OneDimensional width reference b row rest is =
     runs_rule width (λ at b pels rest. AreCodes b rest) (λ at b end. no_codes b b refl)
-    (λ at to b left pels rest unfinished run more.
-    codes_and b left rest (run_codes at.colour b run.n left run.run) more)
+    (λ at to b remaining pels rest unfinished run more.
+    codes_and b remaining rest (run_codes at.colour b run.n remaining run.run) more)
     (record { pels = []; colour = White }) b row rest is
 row_codes TwoDimensional width reference b row rest is =
-    (steps_rule reference (λ at left. AreCodes b left)
-    (λ at middle new left step codes. codes_and b middle left codes
-    (codes_and middle step.after left (mode_codes middle step.mode step.after step.taken)
-    (step_codes step.mode reference at step.after new left step.step)))
+    (steps_rule reference (λ at remaining. AreCodes b remaining)
+    (λ at middle new remaining step codes. codes_and b middle remaining codes
+    (codes_and middle step.after remaining (mode_codes middle step.mode step.after step.taken)
+    (step_codes step.mode reference at step.after new remaining step.step)))
     beginning b row rest is (no_codes b b refl)).1
 
 line_codes : (form : StripForm) (i : ℕ) (reference : List Colour) (b : List Bool) (row : List Colour) (rest : List Bool)
@@ -292,6 +292,6 @@ reaches form i reference b row rest line (inr (after, eol)) = inr (
 )
 
 pub found_reach : FoundRowsReachToTheNextEol
-found_reach form i before reference b row rows (rest, inside, over, ends, more) due =
-    let after = follows rest (next_one 0 rest) refl (ends due) in
+found_reach form i before reference b row rows (rest, inside, over, ends, more) upcoming =
+    let after = follows rest (next_one 0 rest) refl (ends upcoming) in
     (rest, over.line, reaches form i reference b row rest over.line after)

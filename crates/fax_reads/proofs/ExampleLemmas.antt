@@ -4,12 +4,12 @@ use Rattle.fax_bits.specs.Reading.{steps}
 use Rattle.fax_bits.specs.Bits.{bits, byte_bits, code_bits}
 use Rattle.fax_bits.specs.Tables.{modes, white_runs, black_runs, white_terminating, black_terminating, white_make_up}
 use Rattle.fax_bits.specs.Tables.{black_make_up, common_make_up}
-use Rattle.fax_rows.specs.Rows.{first_place, next_change, b1}
+use Rattle.fax_rows.specs.Rows.{first_index, next_change, b1}
 use Rattle.fax_reads.specs.laws.Examples.{AreStripsRead}
 
 pub are_read : AreStripsRead
 unfolding steps bits byte_bits code_bits modes white_runs black_runs white_terminating black_terminating white_make_up
-    black_make_up common_make_up first_place next_change b1
+    black_make_up common_make_up first_index next_change b1
 are_read = record {
   faults_of_mh = record {
     no_bits = refl;

@@ -5,9 +5,9 @@ use Rattle.fax_bits.specs.declared.Colour.{Colour}
 use Rattle.fax_bits.specs.Bits.{bits, byte_bits, code_bits}
 use Rattle.fax_bits.specs.Tables.{modes, white_runs, black_runs, white_terminating, black_terminating, white_make_up}
 use Rattle.fax_bits.specs.Tables.{black_make_up, common_make_up}
-use Rattle.fax_rows.specs.Rows.{first_place, next_change, b1}
+use Rattle.fax_rows.specs.Rows.{first_index, next_change, b1}
 use Rattle.fax_files.specs.Directory.{entries_at, has_integers, header, number_at, read_chain, read_chain_from, scalar}
-use Rattle.fax_files.specs.Directory.{value_at, values_place}
+use Rattle.fax_files.specs.Directory.{value_at, values_offset}
 use Rattle.fax_walk.specs.Pages.{read_page}
 use Rattle.fax_files.specs.Page.{rational_of, form_in, page, strip_bytes}
 use Rattle.fax_files.specs.Layout.{field_bytes}
@@ -45,8 +45,8 @@ module _ (read : FilesAreReadByFunctions) where
 
   headers : AreFaultsOfHeaders
   unfolding steps bits byte_bits code_bits modes white_runs black_runs white_terminating black_terminating white_make_up
-      black_make_up common_make_up first_place next_change b1 number_at header read_chain_from read_chain read_page
-      entries_at values_place value_at has_integers scalar rational_of form_in page strip_bytes field_bytes
+      black_make_up common_make_up first_index next_change b1 number_at header read_chain_from read_chain read_page
+      entries_at values_offset value_at has_integers scalar rational_of form_in page strip_bytes field_bytes
   headers = record {
     no_bytes = refused _ _ refl refl;
     seven_bytes = refused _ _ refl refl;
@@ -59,8 +59,8 @@ module _ (read : FilesAreReadByFunctions) where
 
   chains : AreFaultsOfChains
   unfolding steps bits byte_bits code_bits modes white_runs black_runs white_terminating black_terminating white_make_up
-      black_make_up common_make_up first_place next_change b1 number_at header read_chain_from read_chain read_page
-      entries_at values_place value_at has_integers scalar rational_of form_in page strip_bytes field_bytes
+      black_make_up common_make_up first_index next_change b1 number_at header read_chain_from read_chain read_page
+      entries_at values_offset value_at has_integers scalar rational_of form_in page strip_bytes field_bytes
   chains = record {
     directory_at_the_end = refused _ _ refl refl;
     directory_past_the_end = refused _ _ refl refl;
@@ -74,8 +74,8 @@ module _ (read : FilesAreReadByFunctions) where
 
   fields : AreFaultsOfFields
   unfolding steps bits byte_bits code_bits modes white_runs black_runs white_terminating black_terminating white_make_up
-      black_make_up common_make_up first_place next_change b1 number_at header read_chain_from read_chain read_page
-      entries_at values_place value_at has_integers scalar rational_of form_in page strip_bytes field_bytes
+      black_make_up common_make_up first_index next_change b1 number_at header read_chain_from read_chain read_page
+      entries_at values_offset value_at has_integers scalar rational_of form_in page strip_bytes field_bytes
   fields = record {
     no_fields = refused _ _ refl refl;
     no_width = refused _ _ refl refl;
@@ -112,8 +112,8 @@ module _ (read : FilesAreReadByFunctions) where
 
   strips : AreFaultsOfStrips
   unfolding steps bits byte_bits code_bits modes white_runs black_runs white_terminating black_terminating white_make_up
-      black_make_up common_make_up first_place next_change b1 number_at header read_chain_from read_chain read_page
-      entries_at values_place value_at has_integers scalar rational_of form_in page strip_bytes field_bytes
+      black_make_up common_make_up first_index next_change b1 number_at header read_chain_from read_chain read_page
+      entries_at values_offset value_at has_integers scalar rational_of form_in page strip_bytes field_bytes
   strips = record {
     strip_at_the_end = has _ _ _ refl refl;
     strip_is_cut = has _ _ _ refl refl;
@@ -125,8 +125,8 @@ module _ (read : FilesAreReadByFunctions) where
 
   whole : AreWholeFiles
   unfolding steps bits byte_bits code_bits modes white_runs black_runs white_terminating black_terminating white_make_up
-      black_make_up common_make_up first_place next_change b1 number_at header read_chain_from read_chain read_page
-      entries_at values_place value_at has_integers scalar rational_of form_in page strip_bytes field_bytes
+      black_make_up common_make_up first_index next_change b1 number_at header read_chain_from read_chain read_page
+      entries_at values_offset value_at has_integers scalar rational_of form_in page strip_bytes field_bytes
   whole = record {
     page = has _ _ _ refl refl;
     highest_byte_first = has _ _ _ refl refl;
@@ -141,8 +141,8 @@ module _ (read : FilesAreReadByFunctions) where
 
   sample : IsSampleRead
   unfolding steps bits byte_bits code_bits modes white_runs black_runs white_terminating black_terminating white_make_up
-      black_make_up common_make_up first_place next_change b1 number_at header read_chain_from read_chain read_page
-      entries_at values_place value_at has_integers scalar rational_of form_in page strip_bytes field_bytes
+      black_make_up common_make_up first_index next_change b1 number_at header read_chain_from read_chain read_page
+      entries_at values_offset value_at has_integers scalar rational_of form_in page strip_bytes field_bytes
   sample = record {
     bytes = refl;
     rows = has _ _ _ refl refl;

@@ -4,7 +4,7 @@ use Rattle.std.proofs.Common.{subst}
 use Rattle.std.proofs.Common.{Bool, Option, Some, None, Result, Ok, Err, length-drop}
 use Rattle.std.specs.Prelude.{MatchResult, ◌↔◌, ◌/◌, ◌%◌}
 use Rattle.fax_bits.specs.declared.Colour.{Colour}
-use Rattle.fax_bits.specs.laws.Codes.{AreBitsByPlace, IsOne}
+use Rattle.fax_bits.specs.laws.Codes.{AreBitsByIndex, IsOne}
 use Rattle.fax_bits.specs.Bits.{bits}
 use Rattle.fax_page.specs.declared.StripFault.{StripFault}
 use Rattle.fax_page.specs.declared.StripForm.{StripForm}
@@ -14,7 +14,7 @@ use Rattle.fax_files.specs.Page.{most_rows, strip_bytes, strip_form}
 use Rattle.fax_files.specs.laws.TiffFiles.{FilesHaveOneChain, FormsAreWhole}
 use Rattle.fax_walk.specs.declared.end.End.{End}
 use Rattle.fax_walk.specs.Pages.{AreFrom, FilePage, FormItem, IsForm, NextItem, ends_as, goes_on, read_page}
-use Rattle.fax_walk.specs.Items.{Inner, IsInStrip, IsRow, RowPlace, before, first_at}
+use Rattle.fax_walk.specs.Items.{StripPosition, IsInStrip, IsRow, RowPosition, before, first_at}
 use Rattle.fax_walk.proofs.RowLawLemmas.{LinesAreRead, exchanged_twice, measure, one_row, row_falls}
 use Rattle.fax_walk.proofs.TailLawLemmas.{files_have_one_items}
 use Rattle.fax_walk.proofs.InOrderLemmas.{IsOneAnswer, same_answer, two_of}
@@ -39,7 +39,7 @@ both_lists {A} {holds} only found is items end = (
   λ same. subst (λ (all : AllRead A). holds all.items all.end) same is,
 )
 
--- what is handed out from a place on is read, where the limit is above what is left
+-- what is returned from a place on is read, where the limit is above what is left
 module _ {S A : Type 0} (next : S → NextItem A S → Type 0) (read : S → NextItem A S) (is : (at : S) → next at (read at))
     (measure : S → ℕ)
     (falls : (at : S) (item : A) (to : S) → next at (goes_on item to) → measure to < measure at) where
@@ -83,17 +83,17 @@ module _ (file : List ℕ) where
       (length file + 1) p (omega arith)
 
 module _ (strips : StripsAreReadByFunctions)
-    (by_place : AreBitsByPlace)
+    (by_place : AreBitsByIndex)
     (lines_read : LinesAreRead) where
   -- the row at a place of a strip
-  module _ (form : PageForm) (at : RowPlace) (bytes : List ℕ) where
+  module _ (form : PageForm) (at : RowPosition) (bytes : List ℕ) where
     abbrev strip : StripForm
     strip = strip_form form (at.row / form.rows_per_strip)
 
     abbrev i : ℕ
     i = at.row % form.rows_per_strip
 
-    abbrev inner : Inner
+    abbrev inner : StripPosition
     inner = before form.width at.inner
 
     abbrev all : List Bool
@@ -104,23 +104,23 @@ module _ (strips : StripsAreReadByFunctions)
     by_line (failed fault) cause = (fault, cause, refl)
     by_line (read row rest) line =
         let (after, within, rest_is) = (lines_read strip i inner.reference).rest all inner.bits row rest line in
-        let left : length all - after ≡ length rest = sym (length-drop after all)
+        let remaining : length all - after ≡ length rest = sym (length-drop after all)
         ∙ ap (λ (b : List Bool). length b) rest_is in
         let place : 8 * length bytes - length rest ≡ after = omega
-        (arith, left, within, by_place.count form.order bytes) in
+        (arith, remaining, within, by_place.count form.order bytes) in
         (refl, refl, omega arith, rw (place, rest_is, exchanged_twice form row) line, refl, refl)
 
     in_bytes : IsInStrip form at (Some bytes) (read_in_strip form at (Some bytes))
     in_bytes =
         by_line (read_line strip i inner.reference (drop inner.bits all)) refl
 
-  in_strip_is : (form : PageForm) (at : RowPlace) (found : Option (List ℕ))
+  in_strip_is : (form : PageForm) (at : RowPosition) (found : Option (List ℕ))
       → IsInStrip form at found (read_in_strip form at found)
   in_strip_is form at None = refl
   in_strip_is form at (Some bytes) = in_bytes form at bytes
 
   module _ (chains : FilesHaveOneChain) (forms : FormsAreWhole) (file : List ℕ) where
-    row_is : (at : RowPlace) → IsRow file at (read_row file at)
+    row_is : (at : RowPosition) → IsRow file at (read_row file at)
     row_is at =
         on_page (read_page file (record { page = at.page; row = at.row }))
         (λ here. IsInStrip here.form at (strip_bytes here.endian file here.offset (at.row / here.form.rows_per_strip)))
@@ -134,10 +134,10 @@ module _ (strips : StripsAreReadByFunctions)
         (λ here. in_strip_is here.form at (strip_bytes here.endian file here.offset
         (at.row / here.form.rows_per_strip)))
 
-    below : (at : RowPlace) → measure by_place lines_read chains forms file at < (length file + 1) * (most_rows + 1)
+    below : (at : RowPosition) → measure by_place lines_read chains forms file at < (length file + 1) * (most_rows + 1)
     below at = omega arith
 
-    pub rows_are : (at : RowPlace) → AreFrom (IsRow file) at (rows_from file at).items (rows_from file at).end
+    pub rows_are : (at : RowPosition) → AreFrom (IsRow file) at (rows_from file at).items (rows_from file at).end
     rows_are at = all_are (IsRow file) (read_row file) row_is (measure by_place lines_read chains forms file)
         (row_falls by_place lines_read chains forms file) ((length file + 1) * (most_rows + 1)) at (below at)
 

@@ -9,14 +9,14 @@ use Rattle.fax_files.specs.declared.pbm.PbmFault.{PbmFault}
 use Rattle.fax_files.specs.declared.pbm.PbmFault.TheVariants.{BadHeader}
 use Rattle.fax_files.specs.Pbm.{IsGap, IsHead, SpellsNumber, is_white_space}
 use Rattle.fax_files.specs.code.Pbm as Code
-use Rattle.fax_files.specs.code.Pbm.{begins_piece, has_digit, is_digit, is_line_end}
+use Rattle.fax_files.specs.code.Pbm.{starts_white_space, has_digit, is_digit, is_line_end}
 use Rattle.fax_files.proofs.PbmGapLemmas.{gap_is_read, gap_passed, gap_has_no_digit, white_is_no_digit}
 use Rattle.fax_files.proofs.PbmNumberLemmas.{number_begins}
 use Rattle.fax_files.specs.Directory.{◌>>=◌}
 use Rattle.fax_reads.specs.Images.{after_magic, after_pieces, after_gap, read_digits, read_number, after_space}
 use Rattle.fax_reads.specs.Images.{HeadRead, read_head}
 
--- an answer that goes on
+-- an answer that continues
 went : {A B F : Type 0} (r : Result A F) (next : A → Result B F) (b : B) → r >>= next ≡ Ok b
     → (a : A) × (r ≡ Ok a) × (next a ≡ Ok b)
 went (Ok a) next b is = (a, refl, is)
@@ -36,12 +36,12 @@ of_or_bad None rest is = let no : ⊥ = cc in absurd no
 of_or_bad (Some other) rest is = cc
 
 pieces_are : (in_comment : Bool) (bytes : List ℕ)
-    → after_pieces in_comment bytes ≡ or_bad (Code.after_pieces in_comment bytes)
+    → after_pieces in_comment bytes ≡ or_bad (Code.skip_white_space in_comment bytes)
 pieces_are in_comment [] = refl
 pieces_are true (c ∷ bytes) = pieces_are (not (is_line_end c)) bytes
 pieces_are false (c ∷ bytes) =
-    elim (begins_piece c) as (λ v. (if v then (after_pieces (c == 35) bytes) else (Ok (c ∷ bytes)))
-    ≡ or_bad (if v then (Code.after_pieces (c == 35) bytes) else (Some (c ∷ bytes)))) [
+    elim (starts_white_space c) as (λ v. (if v then (after_pieces (c == 35) bytes) else (Ok (c ∷ bytes)))
+    ≡ or_bad (if v then (Code.skip_white_space (c == 35) bytes) else (Some (c ∷ bytes)))) [
       | true ↦ pieces_are (c == 35) bytes
       | false ↦ refl
     ]
@@ -49,8 +49,8 @@ pieces_are false (c ∷ bytes) =
 gap_same : (bytes : List ℕ) → after_gap bytes ≡ or_bad (Code.after_gap bytes)
 gap_same [] = refl
 gap_same (c ∷ bytes) =
-    elim (begins_piece c) as (λ v. (if v then (after_pieces (c == 35) bytes) else (Err BadHeader))
-    ≡ or_bad (if v then (if v then (Code.after_pieces (c == 35) bytes) else (Some (c ∷ bytes))) else None)) [
+    elim (starts_white_space c) as (λ v. (if v then (after_pieces (c == 35) bytes) else (Err BadHeader))
+    ≡ or_bad (if v then (if v then (Code.skip_white_space (c == 35) bytes) else (Some (c ∷ bytes))) else None)) [
       | true ↦ pieces_are (c == 35) bytes
       | false ↦ refl
     ]
@@ -120,14 +120,14 @@ digits_of n (c ∷ digits) after all none =
     let parts = and_parts (is_digit c) (list_all is_digit digits) all in
     rw (parts.0) (digits_of (with_digit n c) digits after parts.1 none)
 
-begun : (bytes : List ℕ) → has_digit bytes ≡ true → read_number bytes ≡ Ok (read_digits 0 bytes)
-begun [] digit = absurd (false≢true digit)
-begun (c ∷ bytes) digit = rw digit refl
+origin : (bytes : List ℕ) → has_digit bytes ≡ true → read_number bytes ≡ Ok (read_digits 0 bytes)
+origin [] digit = absurd (false≢true digit)
+origin (c ∷ bytes) digit = rw digit refl
 
 number_of : (digits : List ℕ) (n : ℕ) (after : List ℕ) → SpellsNumber digits n → has_digit after ≡ false
     → read_number (digits ++ after) ≡ Ok (n, after)
 number_of digits n after is none =
-    begun (digits ++ after) (number_begins digits n after is)
+    origin (digits ++ after) (number_begins digits n after is)
     ∙ ap (λ (found : ℕ × List ℕ). Ok found) (digits_of 0 digits after is.1 none
     ∙ ap (λ m. (m, after)) (sym is.2))
 

@@ -107,12 +107,12 @@ image_of bytes image rest is =
     let len = is.height * packed_len image.width in
     let all = is.raster ++ rest in
     let taken : take len all ≡ is.raster = ap (λ n. take n all) (sym is.whole) ∙ take-append_seam is.raster rest in
-    let left : drop len all ≡ rest = ap (λ n. drop n all) (sym is.whole) ∙ drop-append_seam is.raster rest in
+    let remaining : drop len all ≡ rest = ap (λ n. drop n all) (sym is.whole) ∙ drop-append_seam is.raster rest in
     let enough : nat_lt (length all) len ≡ false =
     is_above (length all) len (omega (arith, is.whole, length-append is.raster rest)) in
     ap (λ r. r >>= read_raster) (head_of bytes image.width is.height all is.head)
     ∙ raster_whole (record { width = image.width; height = is.height; rest = all }) is.within enough
-    ∙ rw (taken, left, ← is.rows_are) refl
+    ∙ rw (taken, remaining, ← is.rows_are) refl
 
 by_none : (bytes : List ℕ) (r : Result HeadRead PbmFault) → read_head bytes ≡ r
     → MatchResult r (λ _. Unit {0}) (λ fault. fault ≡ BadHeader)

@@ -6,7 +6,7 @@ use Rattle.std.proofs.Common.{Option, Some, None, Ok}
 use Rattle.std.specs.Prelude.{MatchOption, is_some, not, ◌&&◌, ◌||◌, unwrap_or}
 use Rattle.std.specs.List.{Contains}
 use Rattle.fax_bits.specs.declared.Colour.{Colour}
-use Rattle.fax_bits.specs.Bits.{BeginsWith}
+use Rattle.fax_bits.specs.Bits.{StartsWith}
 use Rattle.fax_page.specs.declared.Coding.{Coding}
 use Rattle.fax_page.specs.declared.Coding.TheVariants.{Mh, Mr, Mmr}
 use Rattle.fax_page.specs.declared.StripForm.{StripForm}
@@ -15,7 +15,7 @@ use Rattle.fax_bits.specs.Reading.{read}
 use Rattle.fax_page.specs.declared.Dimension.{Dimension}
 use Rattle.fax_page.specs.Lines.{IsLine, read_start, white_row}
 use Rattle.fax_page.proofs.LineParts.{LineParts, parts}
-use Rattle.fax_page.specs.Strip.{AreLines, HasEndMark, HasOtherChoice, IsEndMark, IsNotedAs}
+use Rattle.fax_page.specs.Strip.{AreLines, HasEndMark, HasNonCanonicalRow, IsEndMark, IsNotedAs}
 use Rattle.fax_page.specs.Strip.{HasOtherCodes, row_bits}
 use Rattle.fax_bits.specs.Codes.{after_front}
 use Rattle.fax_page.specs.Lines.{read_start}
@@ -64,7 +64,7 @@ all_of (true ∷ front) = all_of front
 all_of (false ∷ front) = all_of front
 
 is_front : (front b : List Bool) (r : Option (List Bool))
-    → MatchOption r (BeginsWith b front → ⊥) (λ rest. b ≡ front ++ rest)
+    → MatchOption r (StartsWith b front → ⊥) (λ rest. b ≡ front ++ rest)
     → is_all r ≡ true → b ≡ front
 is_front front b None none e = absurd (true≢false (sym e))
 is_front front b (Some []) is e = is ∙ append-nil front
@@ -93,21 +93,21 @@ module _ (strips : StripsAreReadByFunctions) where
       → has_other_choice form i reference b (row ∷ rows)
       ≡ tested form i reference row rows codes (row_bits dimension reference row) rest
   test_is form i reference b row rows rest dimension codes line start =
-      let more : List Bool → Bool = λ left. has_other_choice form (i + 1) row left rows in
+      let more : List Bool → Bool = λ remaining. has_other_choice form (i + 1) row remaining rows in
       ap (is_other reference row more (read_start form.coding i b)) line
-      ∙ ap (λ begun. is_other reference row more begun (read row rest)) start
+      ∙ ap (λ origin. is_other reference row more origin (read row rest)) start
 
   choice_of : (form : StripForm) (i : ℕ) (reference : List Colour) (b : List Bool) (rows : List (List Colour))
-      → HasOtherChoice form i reference b rows → has_other_choice form i reference b rows ≡ true
+      → HasNonCanonicalRow form i reference b rows → has_other_choice form i reference b rows ≡ true
   choice_of form i reference b [] other = absurd other
   choice_of form i reference b (row ∷ rows) (rest, line, inl (dimension, codes, start, other)) =
       test_is form i reference b row rows rest dimension codes line start
       ∙ ap (λ test. not test || has_other_choice form (i + 1) row rest rows)
       (differ (row_bits dimension reference row ++ rest) codes other)
   choice_of form i reference b (row ∷ rows) (rest, line, inr other) =
-      let begun = parts form i reference b row rest line in
-      test_is form i reference b row rows rest begun.dimension begun.codes line begun.start
-      ∙ or_true (not (is_all (after_front (row_bits begun.dimension reference row ++ rest) begun.codes)))
+      let origin = parts form i reference b row rest line in
+      test_is form i reference b row rows rest origin.dimension origin.codes line origin.start
+      ∙ or_true (not (is_all (after_front (row_bits origin.dimension reference row ++ rest) origin.codes)))
       (choice_of form (i + 1) row rest rows other)
     where
       or_true : (test : Bool) {more : Bool} → more ≡ true → (test || more) ≡ true
@@ -115,45 +115,45 @@ module _ (strips : StripsAreReadByFunctions) where
       or_true false e = e
 
   is_choice : (form : StripForm) (i : ℕ) (reference : List Colour) (b : List Bool) (rows : List (List Colour))
-      (end : Option StripFault) (left : List Bool) → AreLines form i reference b rows end left
-      → has_other_choice form i reference b rows ≡ true → HasOtherChoice form i reference b rows
-  is_choice form i reference b [] end left lines e = absurd (true≢false (sym e))
-  is_choice form i reference b (row ∷ rows) end left (rest, due, line, lines) e =
-      let begun = parts form i reference b row rest line in (
+      (end : Option StripFault) (remaining : List Bool) → AreLines form i reference b rows end remaining
+      → has_other_choice form i reference b rows ≡ true → HasNonCanonicalRow form i reference b rows
+  is_choice form i reference b [] end remaining lines e = absurd (true≢false (sym e))
+  is_choice form i reference b (row ∷ rows) end remaining (rest, upcoming, line, lines) e =
+      let origin = parts form i reference b row rest line in (
         rest,
         line,
-        by_test begun (is_all (after_front (row_bits begun.dimension reference row ++ rest) begun.codes)) refl
-            (is_choice form (i + 1) row rest rows end left lines)
-            (sym (test_is form i reference b row rows rest begun.dimension begun.codes line begun.start) ∙ e),
+        by_test origin (is_all (after_front (row_bits origin.dimension reference row ++ rest) origin.codes)) refl
+            (is_choice form (i + 1) row rest rows end remaining lines)
+            (sym (test_is form i reference b row rows rest origin.dimension origin.codes line origin.start) ∙ e),
       )
     where
-      by_test : (begun : LineParts form i reference b row rest) (test : Bool)
-          → is_all (after_front (row_bits begun.dimension reference row ++ rest) begun.codes) ≡ test
-          → (has_other_choice form (i + 1) row rest rows ≡ true → HasOtherChoice form (i + 1) row rest rows)
+      by_test : (origin : LineParts form i reference b row rest) (test : Bool)
+          → is_all (after_front (row_bits origin.dimension reference row ++ rest) origin.codes) ≡ test
+          → (has_other_choice form (i + 1) row rest rows ≡ true → HasNonCanonicalRow form (i + 1) row rest rows)
           → (not test || has_other_choice form (i + 1) row rest rows) ≡ true
-          → HasOtherCodes form i reference b row rest ⊎ HasOtherChoice form (i + 1) row rest rows
-      by_test begun true at later more = inr (later more)
-      by_test begun false at later more =
-          inl (begun.dimension, begun.codes, begun.start, λ same. true≢false (sym (ap is_all (alike _ _ same)) ∙ at))
+          → HasOtherCodes form i reference b row rest ⊎ HasNonCanonicalRow form (i + 1) row rest rows
+      by_test origin true at later more = inr (later more)
+      by_test origin false at later more =
+          inl (origin.dimension, origin.codes, origin.start, λ same. true≢false (sym (ap is_all (alike _ _ same)) ∙ at))
 
   -- a strip is noted so
-  pub notes_are : (form : StripForm) (b : List Bool) (rows : List (List Colour)) (left : List Bool)
-      → AreLines form 0 (white_row form.width) b rows None left
-      → IsNotedAs form b rows (strip_notes form b rows left)
-  notes_are form b rows left lines =
-      let r = after_mark form.coding left in
-      let is = mark_is form.coding left in
-      let mark = has_mark form.coding left r is in
+  pub notes_are : (form : StripForm) (b : List Bool) (rows : List (List Colour)) (remaining : List Bool)
+      → AreLines form 0 (white_row form.width) b rows None remaining
+      → IsNotedAs form b rows (strip_notes form b rows remaining)
+  notes_are form b rows remaining lines =
+      let r = after_mark form.coding remaining in
+      let is = mark_is form.coding remaining in
+      let mark = has_mark form.coding remaining r is in
       record {
-        left = left;
+        remaining = remaining;
         lines = lines;
-        after = unwrap_or r left;
-        after_end = after_end form.coding left r is;
-        no_end_of_block = no_block form.coding (is_some r) (HasEndMark form.coding left) mark;
-        return_to_control = is_return_to form.coding (is_some r) (HasEndMark form.coding left) mark;
-        data_after_end = has_one (unwrap_or r left);
+        after = unwrap_or r remaining;
+        after_end = after_end form.coding remaining r is;
+        no_end_of_block = no_block form.coding (is_some r) (HasEndMark form.coding remaining) mark;
+        return_to_control = is_return_to form.coding (is_some r) (HasEndMark form.coding remaining) mark;
+        data_after_end = has_one (unwrap_or r remaining);
         not_t4_choice = (
-          is_choice form 0 (white_row form.width) b rows None left lines,
+          is_choice form 0 (white_row form.width) b rows None remaining lines,
           choice_of form 0 (white_row form.width) b rows,
         );
       }

@@ -6,9 +6,9 @@ use Rattle.fax_bits.specs.Tables.{modes, white_runs, black_runs, white_terminati
 use Rattle.fax_bits.specs.Tables.{black_make_up, common_make_up}
 use Rattle.fax_bits.specs.Written.{run_code_bits, mode_bits, run_bits}
 use Rattle.fax_rows.specs.Coded.{alternating_bits, step_bits}
-use Rattle.fax_rows.specs.Rows.{first_place, next_change, b1, runs_after}
+use Rattle.fax_rows.specs.Rows.{first_index, next_change, b1, runs_after}
 use Rattle.fax_files.specs.Directory.{entries_at, has_integers, header, number_at, read_chain, read_chain_from, scalar}
-use Rattle.fax_files.specs.Directory.{value_at, values_place}
+use Rattle.fax_files.specs.Directory.{value_at, values_offset}
 use Rattle.fax_walk.specs.Pages.{read_page}
 use Rattle.fax_files.specs.Page.{rational_of, form_in, page, strip_bytes}
 use Rattle.fax_files.specs.Layout.{field_bytes}
@@ -22,8 +22,8 @@ module _ (reads : ReportsAreReadByAFunction) where
 
   pub reports_read : AreReportsRead
   unfolding steps bits byte_bits code_bits modes white_runs black_runs white_terminating black_terminating white_make_up
-      black_make_up common_make_up first_place next_change b1 number_at header read_chain_from read_chain read_page
-      entries_at values_place value_at has_integers run_code_bits mode_bits run_bits alternating_bits step_bits
+      black_make_up common_make_up first_index next_change b1 number_at header read_chain_from read_chain read_page
+      entries_at values_offset value_at has_integers run_code_bits mode_bits run_bits alternating_bits step_bits
       runs_after scalar rational_of form_in page strip_bytes field_bytes
   reports_read = record {
     row_alone = has _ _ refl;

@@ -4,7 +4,7 @@ use Rattle.std.proofs.Common.{sym, ◌∙◌, subst, Bool, true, false, Option, 
 use Rattle.std.specs.Prelude.{◌==◌, flat_map, if◌then◌else◌, nat_lt}
 use Rattle.std.proofs.lemmas.Bool.Decides.{nat_tests}
 use Rattle.fax_bits.specs.declared.Colour.{Colour}
-use Rattle.fax_bits.specs.laws.Codes.{AreBitsByPlace}
+use Rattle.fax_bits.specs.laws.Codes.{AreBitsByIndex}
 use Rattle.fax_bits.specs.Bits.{bits}
 use Rattle.fax_page.specs.declared.StripFault.{StripFault}
 use Rattle.fax_page.specs.declared.notes.StripNotes.{StripNotes}
@@ -21,9 +21,9 @@ use Rattle.fax_walk.specs.declared.checking.Report.{Report}
 use Rattle.fax_walk.specs.declared.end.End.{End}
 use Rattle.fax_walk.specs.declared.walk.Place.{Place}
 use Rattle.fax_files.specs.declared.Cause.{Cause}
-use Rattle.fax_walk.specs.declared.end.End.TheVariants.{Proper, Fault, Outside}
+use Rattle.fax_walk.specs.declared.end.End.TheVariants.{EndOfPages, Fault, Outside}
 use Rattle.fax_walk.specs.Pages.{AreFrom, FilePage, read_page, NextItem, goes_on, ends_as, File}
-use Rattle.fax_walk.specs.Items.{AreItems, IsRow, RowItem, RowPlace, first_at}
+use Rattle.fax_walk.specs.Items.{AreItems, IsRow, RowItem, RowPosition, first_at}
 use Rattle.fax_walk.specs.Report.{IsNoted, IsReport, IsReportedEnd, IsStripNoted, notes_on_strip}
 use Rattle.fax_walk.specs.code.RowPlaces.{first_on}
 use Rattle.fax_walk.proofs.FileEndLemmas.{never_outside}
@@ -47,13 +47,13 @@ Next = ℕ × Option ℕ
 
 module _ (strips : StripsAreReadByFunctions) where
   -- what is noted of a strip
-  by_end : (form : PageForm) (p s : ℕ) (bytes : List ℕ) (rows : List (List Colour)) (left : List Bool)
+  by_end : (form : PageForm) (p s : ℕ) (bytes : List ℕ) (rows : List (List Colour)) (remaining : List Bool)
       (end : Option StripFault)
-      → AreLines (strip_form form s) 0 (white_row form.width) (bits form.order bytes) rows end left
-      → IsStripNoted form p s (Some bytes) (noted_by form p s (bits form.order bytes) rows left end)
-  by_end form p s bytes rows left None lines =
-      (rows, _, notes_are strips (strip_form form s) (bits form.order bytes) rows left lines, refl, refl)
-  by_end form p s bytes rows left (Some fault) lines = (rows, fault, left, lines, refl)
+      → AreLines (strip_form form s) 0 (white_row form.width) (bits form.order bytes) rows end remaining
+      → IsStripNoted form p s (Some bytes) (noted_by form p s (bits form.order bytes) rows remaining end)
+  by_end form p s bytes rows remaining None lines =
+      (rows, _, notes_are strips (strip_form form s) (bits form.order bytes) rows remaining lines, refl, refl)
+  by_end form p s bytes rows remaining (Some fault) lines = (rows, fault, remaining, lines, refl)
 
   in_strip_is : (form : PageForm) (p s : ℕ) (found : Option (List ℕ))
       → IsStripNoted form p s found (noted_in form p s found)
@@ -62,8 +62,8 @@ module _ (strips : StripsAreReadByFunctions) where
       let strip = strip_form form s in
       let b = bits form.order bytes in
       let all = read_strip strip b in
-      by_end form p s bytes all.rows all.left all.end
-      ((strips strip b all.rows all.end all.left).1 refl)
+      by_end form p s bytes all.rows all.remaining all.end
+      ((strips strip b all.rows all.end all.remaining).1 refl)
 
   module _ (file : List ℕ) where
     noted_is : (at : Next) → IsNoted file at (read_noted file at)
@@ -78,7 +78,7 @@ module _ (strips : StripsAreReadByFunctions) where
         (λ found. elim found [ Err end ↦ ends_as end | Ok here ↦ noted_on file p (Some s) here ])
         (λ end. refl) (λ here. in_strip_is here.form p s (strip_bytes here.endian file here.offset s))
 
--- a strip that is due is one of its page
+-- a strip that is expected is one of its page
 abbrev IsDue : List ℕ → Next → Type 0
 IsDue file (p, None) = Unit {0}
 IsDue file (p, Some s) =
@@ -90,7 +90,7 @@ measure file (p, None) = (length file - p) * 1000002 + 1000001
 measure file (p, Some s) = (length file - p) * 1000002 + (1000000 - s)
 
 few_strips : (form : PageForm) → IsWholeForm form → (s : ℕ) → s < form.strips → s < 1000000
-few_strips form whole s due = by_rows form.rows_per_strip whole.some_in_strip (whole.needed s due)
+few_strips form whole s upcoming = by_rows form.rows_per_strip whole.some_in_strip (whole.needed s upcoming)
   where
     by_rows : (n : ℕ) → 1 ≤ n → s * n < form.rows → s < 1000000
     by_rows zero some less = absurd (omega (arith, some))
@@ -110,29 +110,29 @@ module _ (chains : FilesHaveOneChain) (forms : FormsAreWhole) (file : List ℕ) 
   after_strip : (p s : ℕ) (here : FilePage) → read_page file (record { page = p; row = 0 }) ≡ Ok here
       → s < here.form.strips → (test : Bool) → (s + 1 == here.form.strips) ≡ test
       → Falls (p, Some s) (if test then (p + 1, None) else (p, Some (s + 1)))
-  after_strip p s here page due true at =
+  after_strip p s here page upcoming true at =
       let few = page_few chains file (record { page = p; row = 0 }) here page in
       (tt, omega (arith, few))
-  after_strip p s here page due false at =
-      let few = few_strips here.form (whole_page file forms (record { page = p; row = 0 }) here page) s due in
-      let next : s + 1 < here.form.strips = grind (arith, nat_tests, at, due) in
+  after_strip p s here page upcoming false at =
+      let few = few_strips here.form (whole_page file forms (record { page = p; row = 0 }) here page) s upcoming in
+      let next : s + 1 < here.form.strips = grind (arith, nat_tests, at, upcoming) in
       ((here, page, next), omega (arith, few))
 
   in_file : (p s : ℕ) (here : FilePage) → read_page file (record { page = p; row = 0 }) ≡ Ok here
       → s < here.form.strips → (found : Option (List ℕ)) (item : List Note) (to : Next)
       → IsStripNoted here.form p s found (goes_on item to) → Falls (p, Some s) to
-  in_file p s here page due None item to is = absurd (cc (is))
-  in_file p s here page due (Some bytes) item to (rows, found, noted, is, to_is) =
-      subst (Falls (p, Some s)) (sym to_is) (after_strip p s here page due (s + 1 == here.form.strips) refl)
+  in_file p s here page upcoming None item to is = absurd (cc (is))
+  in_file p s here page upcoming (Some bytes) item to (rows, found, noted, is, to_is) =
+      subst (Falls (p, Some s)) (sym to_is) (after_strip p s here page upcoming (s + 1 == here.form.strips) refl)
 
   falls : (at : Next) (item : List Note) (to : Next) → IsDue file at → IsNoted file at (goes_on item to) → Falls at to
-  falls (p, None) item to due is = by_page file (record { page = p; row = 0 }) is (λ here page is.
+  falls (p, None) item to upcoming is = by_page file (record { page = p; row = 0 }) is (λ here page is.
       let to_is : to ≡ (p, Some 0) = cc (is) in
       let some = some_strips here.form (whole_page file forms (record { page = p; row = 0 }) here page) in
       subst (Falls (p, None)) (sym to_is) ((here, page, some), omega arith))
       (λ end page is. absurd (cc (is)))
-  falls (p, Some s) item to (here, page, due) is =
-      in_file p s here page due (strip_bytes here.endian file here.offset s) item to (rw page at is)
+  falls (p, Some s) item to (here, page, upcoming) is =
+      in_file p s here page upcoming (strip_bytes here.endian file here.offset s) item to (rw page at is)
 
   module _ (is : (at : Next) → IsNoted file at (read_noted file at)) where
     by_step : (limit : ℕ) (at : Next) (step : NextItem (List Note) Next) → IsNoted file at step
@@ -147,29 +147,29 @@ module _ (chains : FilesHaveOneChain) (forms : FormsAreWhole) (file : List ℕ) 
     all_noted : (limit : ℕ) (at : Next) → IsDue file at → measure file at < limit
         → AreFrom (IsNoted file) at (read_all limit (read_noted file) at).items
         (read_all limit (read_noted file) at).end
-    all_noted zero at due few = absurd (omega (arith, few))
-    all_noted (suc limit) at due few =
-        by_step limit at (read_noted file at) (is at) (λ item to here. let less = falls at item to due here in
+    all_noted zero at upcoming few = absurd (omega (arith, few))
+    all_noted (suc limit) at upcoming few =
+        by_step limit at (read_noted file at) (is at) (λ item to here. let less = falls at item to upcoming here in
         all_noted limit to less.0 (omega (arith, few, less.1)))
 
     pub all_are : AreFrom (IsNoted file) (0, None) (read_notes file).items (read_notes file).end
     all_are = all_noted ((length file + 1) * (most_rows + 2)) (0, None) tt (omega arith)
 
--- the rows of a file from where notes are due on end as the notes do
+-- the rows of a file from where notes are expected on end as the notes do
 abbrev RowsFrom : List ℕ → ℕ × Option ℕ → End → Type 0
 RowsFrom file (p, None) end = (items : List RowItem) × AreFrom (IsRow file) (first_at p 0) items end
 RowsFrom file (p, Some s) end =
     (here : FilePage) → read_page file (record { page = p; row = 0 }) ≡ Ok here → s < here.form.strips
     → (items : List RowItem) × AreFrom (IsRow file) (first_at p (s * here.form.rows_per_strip)) items end
 
-module _ (by_place : AreBitsByPlace) (lines_read : LinesAreRead) (chains : FilesHaveOneChain) (forms : FormsAreWhole)
+module _ (by_place : AreBitsByIndex) (lines_read : LinesAreRead) (chains : FilesHaveOneChain) (forms : FormsAreWhole)
     (file : List ℕ) where
   module _ (p s : ℕ) (here : FilePage) (page : read_page file (record { page = p; row = 0 }) ≡ Ok here)
-      (due : s < here.form.strips) where
+      (upcoming : s < here.form.strips) where
     abbrev n : ℕ
     n = here.form.rows_per_strip
 
-    abbrev first : RowPlace
+    abbrev first : RowPosition
     first = first_at p (s * n)
 
     whole : IsWholeForm here.form
@@ -189,11 +189,11 @@ module _ (by_place : AreBitsByPlace) (lines_read : LinesAreRead) (chains : Files
           row_at by_place lines_read file here.endian here.offset here.form p pages whole (s * n) None None
               (ends_as end) (rw number.0 none) (rw (number.0, same) refl),
         )
-    stops end (Some bytes) there (rows, fault, left, lines, is) =
+    stops end (Some bytes) there (rows, fault, remaining, lines, is) =
         let strip : IsStrip (strip_form here.form s) (bits here.form.order bytes) rows (Some fault) =
-        record { left = left; lines = lines } in
+        record { remaining = remaining; lines = lines } in
         let read = strip_rows by_place lines_read file here.endian here.offset here.form p pages whole s
-        (whole.needed s due) bytes there rows (Some fault) strip in
+        (whole.needed s upcoming) bytes there rows (Some fault) strip in
         (read.items, ended_at (IsRow file) first read.to read.items end read.lead (rw is read.there))
 
     -- after the rows of a whole strip
@@ -204,11 +204,11 @@ module _ (by_place : AreBitsByPlace) (lines_read : LinesAreRead) (chains : Files
     after_rows end rows count true at more =
         let last : s + 1 ≡ here.form.strips = grind (arith, nat_tests, at) in
         let all : here.form.rows ≤ (s + 1) * n = rw last whole.enough in
-        let total : s * n + rows ≡ here.form.rows = omega (arith, count, all, whole.needed s due) in
+        let total : s * n + rows ≡ here.form.rows = omega (arith, count, all, whole.needed s upcoming) in
         let test : nat_lt (s * n + rows) here.form.rows ≡ false = grind (arith, nat_tests, total) in
         rw test more
     after_rows end rows count false at more =
-        let next : s + 1 < here.form.strips = grind (arith, nat_tests, at, due) in
+        let next : s + 1 < here.form.strips = grind (arith, nat_tests, at, upcoming) in
         let below = whole.needed (s + 1) next in
         let total : s * n + rows ≡ (s + 1) * n = omega (arith, count, below) in
         let test : nat_lt ((s + 1) * n) here.form.rows ≡ true = grind (arith, nat_tests, below) in
@@ -222,9 +222,9 @@ module _ (by_place : AreBitsByPlace) (lines_read : LinesAreRead) (chains : Files
     goes end notes to None none is more = absurd (cc (is))
     goes end notes to (Some bytes) there (rows, found, noted, is, to_is) more =
         let strip : IsStrip (strip_form here.form s) (bits here.form.order bytes) rows None =
-        record { left = noted.left; lines = noted.lines } in
+        record { remaining = noted.remaining; lines = noted.lines } in
         let read = strip_rows by_place lines_read file here.endian here.offset here.form p pages whole s
-        (whole.needed s due) bytes there rows None strip in
+        (whole.needed s upcoming) bytes there rows None strip in
         let count = strip_count (strip_form here.form s) (bits here.form.order bytes) rows None strip in
         let later = after_rows end (length rows) count (s + 1 == here.form.strips) refl
         (subst (λ (t : Next). RowsFrom file t end) to_is more) in (
@@ -244,42 +244,43 @@ module _ (by_place : AreBitsByPlace) (lines_read : LinesAreRead) (chains : Files
       rw zero at
       (more here page (some_strips here.form (whole_page file forms (record { page = p; row = 0 }) here page))))
       (λ e page is. absurd (cc (is)))
-  agree (p, Some s) [] end is = λ here page due.
-      stops p s here page due end (strip_bytes here.endian file here.offset s) refl (rw page at is)
-  agree (p, Some s) (note ∷ notes) end (to, is, rest) = λ here page due.
-      goes p s here page due end note to (strip_bytes here.endian file here.offset s) refl (rw page at is)
+  agree (p, Some s) [] end is = λ here page upcoming.
+      stops p s here page upcoming end (strip_bytes here.endian file here.offset s) refl (rw page at is)
+  agree (p, Some s) (note ∷ notes) end (to, is, rest) = λ here page upcoming.
+      goes p s here page upcoming end note to (strip_bytes here.endian file here.offset s) refl (rw page at is)
       (agree to notes end rest)
 
 -- where notes end properly, that page is after the last one
-in_strip_proper : (form : PageForm) (p s : ℕ) (found : Option (List ℕ)) → IsStripNoted form p s found (ends_as Proper)
+in_strip_proper : (form : PageForm) (p s : ℕ) (found : Option (List ℕ))
+    → IsStripNoted form p s found (ends_as EndOfPages)
     → ⊥
 in_strip_proper form p s None is = absurd (cc (is))
-in_strip_proper form p s (Some bytes) (rows, fault, left, lines, is) = absurd (cc (is))
+in_strip_proper form p s (Some bytes) (rows, fault, remaining, lines, is) = absurd (cc (is))
 
-proper_at : (file : List ℕ) (at : Next) (notes : List (List Note)) → AreFrom (IsNoted file) at notes Proper
-    → (p : ℕ) × (read_page file (record { page = p; row = 0 }) ≡ Err Proper)
+proper_at : (file : List ℕ) (at : Next) (notes : List (List Note)) → AreFrom (IsNoted file) at notes EndOfPages
+    → (p : ℕ) × (read_page file (record { page = p; row = 0 }) ≡ Err EndOfPages)
 proper_at file (p, None) [] is = by_page file (record { page = p; row = 0 }) is (λ here page is. absurd (cc (is)))
-    (λ e page is. let same : Proper ≡ e = cc (is) in (p, rw same page))
+    (λ e page is. let same : EndOfPages ≡ e = cc (is) in (p, rw same page))
 proper_at file (p, Some s) [] is = by_page file (record { page = p; row = 0 }) is (λ here page is.
     absurd (in_strip_proper here.form p s (strip_bytes here.endian file here.offset s) is))
-    (λ e page is. let same : Proper ≡ e = cc (is) in (p, rw same page))
+    (λ e page is. let same : EndOfPages ≡ e = cc (is) in (p, rw same page))
 proper_at file at (note ∷ notes) (to, step, rest) = proper_at file to notes rest
 
-count_is : (file : List ℕ) (p : ℕ) → read_page file (record { page = p; row = 0 }) ≡ Err Proper
-    → p ≡ pages_to file Proper
+count_is : (file : List ℕ) (p : ℕ) → read_page file (record { page = p; row = 0 }) ≡ Err EndOfPages
+    → p ≡ pages_to file EndOfPages
 count_is file p at = let (head, is_head, none, count) = proper_after file p at in rw (is_head, pages_to) count
 
 pub end_is : (file : List ℕ) (items : List RowItem) (notes : List (List Note)) (end : End)
     → AreItems file items end → AreFrom (IsNoted file) (0, None) notes end
     → IsReportedEnd file end (pages_to file end) (fault_and_place end)
-end_is file items notes Proper are noted =
+end_is file items notes EndOfPages are noted =
     let at = proper_at file (0, None) notes noted in
-    (subst (λ p. read_page file (record { page = p; row = 0 }) ≡ Err Proper) (count_is file at.0 at.1) at.1, refl)
+    (subst (λ p. read_page file (record { page = p; row = 0 }) ≡ Err EndOfPages) (count_is file at.0 at.1) at.1, refl)
 end_is file items notes (Fault p r cause) are noted = (refl, refl)
 end_is file items notes Outside are noted = absurd (never_outside file items are)
 
 module _ (strips : StripsAreReadByFunctions)
-    (by_place : AreBitsByPlace) (lines_read : LinesAreRead) (chains : FilesHaveOneChain) (forms : FormsAreWhole) where
+    (by_place : AreBitsByIndex) (lines_read : LinesAreRead) (chains : FilesHaveOneChain) (forms : FormsAreWhole) where
   report_is : (file : List ℕ) (report : Report) → read_report file ≡ parts_of report → IsReport file report
   report_is file report e =
       let all = read_rows file in
@@ -313,17 +314,17 @@ module _ (strips : StripsAreReadByFunctions)
     strip_of form p s (Some bytes) (goes_on notes to) (rows, found, noted, is, to_is) =
         let strip = strip_form form s in
         let b = bits form.order bytes in
-        let read = (strips strip b rows None noted.left).0 noted.lines in
-        let same = once strip b rows rows (strip_notes strip b rows noted.left) found
-        (notes_are strips strip b rows noted.left noted.lines) noted in
+        let read = (strips strip b rows None noted.remaining).0 noted.lines in
+        let same = once strip b rows rows (strip_notes strip b rows noted.remaining) found
+        (notes_are strips strip b rows noted.remaining noted.lines) noted in
         let after : Next = if s + 1 == form.strips then (p + 1, None) else (p, Some (s + 1)) in
-        ap (λ (all : StripRead). noted_by form p s b all.rows all.left all.end) read
+        ap (λ (all : StripRead). noted_by form p s b all.rows all.remaining all.end) read
         ∙ ap (λ (of : StripNotes). goes_on (notes_on_strip p s of) after) same ∙ rw (is, to_is) refl
-    strip_of form p s (Some bytes) (ends_as end) (rows, fault, left, lines, is) =
+    strip_of form p s (Some bytes) (ends_as end) (rows, fault, remaining, lines, is) =
         let strip = strip_form form s in
         let b = bits form.order bytes in
-        let read = (strips strip b rows (Some fault) left).0 lines in
-        ap (λ (all : StripRead). noted_by form p s b all.rows all.left all.end) read ∙ rw is refl
+        let read = (strips strip b rows (Some fault) remaining).0 lines in
+        ap (λ (all : StripRead). noted_by form p s b all.rows all.remaining all.end) read ∙ rw is refl
 
     single_strip : (form : PageForm) (p s : ℕ) (found : Option (List ℕ)) → IsSingle (IsStripNoted form p s found)
     single_strip form p s found x y first second =
@@ -341,7 +342,7 @@ module _ (strips : StripsAreReadByFunctions)
 
     end_of : (file : List ℕ) (end : End) (pages : ℕ) (fault : Option (Place × Cause))
         → IsReportedEnd file end pages fault → (pages_to file end ≡ pages) × (fault_and_place end ≡ fault)
-    end_of file Proper pages fault is = (sym (count_is file pages is.0), sym is.1)
+    end_of file EndOfPages pages fault is = (sym (count_is file pages is.0), sym is.1)
     end_of file (Fault p r cause) pages fault is = (sym is.0, sym is.1)
     end_of file Outside pages fault is = absurd is
 

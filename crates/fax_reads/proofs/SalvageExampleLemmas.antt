@@ -4,14 +4,14 @@ use Rattle.fax_bits.specs.Reading.{steps}
 use Rattle.fax_bits.specs.Bits.{bits, byte_bits, code_bits}
 use Rattle.fax_bits.specs.Tables.{modes, white_runs, black_runs, white_terminating, black_terminating, white_make_up}
 use Rattle.fax_bits.specs.Tables.{black_make_up, common_make_up}
-use Rattle.fax_rows.specs.Rows.{first_place, next_change, b1}
+use Rattle.fax_rows.specs.Rows.{first_index, next_change, b1}
 use Rattle.fax_files.specs.Directory.{entries_at, has_integers, header, number_at, read_chain, read_chain_from, scalar}
-use Rattle.fax_files.specs.Directory.{value_at, values_place}
+use Rattle.fax_files.specs.Directory.{value_at, values_offset}
 use Rattle.fax_walk.specs.Pages.{read_page}
 use Rattle.fax_files.specs.BytesInside.{bytes_inside}
 use Rattle.fax_files.specs.Page.{rational_of, form_in, page, strip_bytes}
 use Rattle.fax_files.specs.Layout.{field_bytes}
-use Rattle.fax_walk.specs.Salvaged.{LeftItem}
+use Rattle.fax_walk.specs.Salvaged.{SalvagedItem}
 use Rattle.fax_bits.specs.declared.FillOrder.TheVariants.{MsbFirst}
 use Rattle.fax_page.specs.declared.Coding.{Coding}
 use Rattle.fax_page.specs.declared.RowsEnd.{RowsEnd}
@@ -24,7 +24,7 @@ use Rattle.fax_reads.specs.laws.Examples.{form}
 use Rattle.fax_reads.specs.laws.FileSalvage.{SalvagesAreReadByFunctions}
 use Rattle.fax_reads.specs.laws.SalvageExamples.{AreSalvagesRead, HasLeft, HasLeftUncounted}
 
-has : SalvagesAreReadByFunctions → (file : List ℕ) (items : List LeftItem) → salvage_file file ≡ items
+has : SalvagesAreReadByFunctions → (file : List ℕ) (items : List SalvagedItem) → salvage_file file ≡ items
     → HasLeft file items
 has read file items same = record { are = (read file items).1 same }
 
@@ -37,8 +37,8 @@ has_uncounted read coding bytes rows end same =
 
 pub salvages : SalvagesAreReadByFunctions → DamagedStripsAreReadByFunctions → AreSalvagesRead
 unfolding steps bits byte_bits code_bits modes white_runs black_runs white_terminating black_terminating white_make_up
-    black_make_up common_make_up first_place next_change b1 number_at header read_chain_from read_chain read_page
-    entries_at values_place value_at has_integers scalar rational_of form_in page strip_bytes bytes_inside field_bytes
+    black_make_up common_make_up first_index next_change b1 number_at header read_chain_from read_chain read_page
+    entries_at values_offset value_at has_integers scalar rational_of form_in page strip_bytes bytes_inside field_bytes
 salvages read strips = record {
   whole = has read _ _ refl;
   raw_pbm_by_another_name_is = has read _ _ refl;

@@ -10,7 +10,7 @@ use Rattle.fax_files.specs.declared.PageForm.{PageForm}
 use Rattle.fax_files.specs.Directory.{Header, header, read_chain}
 use Rattle.fax_files.specs.Page.{page, strip_form}
 use Rattle.fax_walk.specs.Pages.{FilePage}
-use Rattle.fax_walk.specs.Salvaged.{ArePagesLeft, AreStripsLeft, IsPageLeftAs, IsSalvaged, IsStripLeft, LeftItem}
+use Rattle.fax_walk.specs.Salvaged.{ArePagesLeft, AreStripsLeft, IsPageLeftAs, IsSalvaged, IsStripLeft, SalvagedItem}
 use Rattle.fax_walk.specs.Salvaged.{strip_left}
 use Rattle.fax_walk.specs.laws.Salvaged.{IsSalvagedOneWay}
 use Rattle.fax_page.specs.reads.Salvage.{salvage_strip}
@@ -21,16 +21,16 @@ use Rattle.fax_reads.specs.laws.FileSalvage.{SalvagesAreReadByFunctions}
 module _ (strips : DamagedStripsAreReadByFunctions) (file : List ℕ) where
   page_strip_is : (here : FilePage) (s : ℕ) → IsStripLeft file here s (salvage_page_strip file here s)
   page_strip_is here s =
-      let left = strip_left here file s in
+      let remaining = strip_left here file s in
       let form = strip_form here.form s in
-      let all = bits here.form.order left.0 in
+      let all = bits here.form.order remaining.0 in
       (salvage_strip form all, (strips.strip form all (salvage_strip form all)).1 refl, refl)
 
   strips_are : (n : ℕ) (here : FilePage) (s : ℕ) → s + n ≡ here.form.strips
       → AreStripsLeft file here s (salvage_strips n file here s)
-  strips_are zero here s due = omega (arith, due)
-  strips_are (suc n) here s due =
-      (omega (arith, due), page_strip_is here s, strips_are n here (s + 1) (omega (arith, due)))
+  strips_are zero here s upcoming = omega (arith, upcoming)
+  strips_are (suc n) here s upcoming =
+      (omega (arith, upcoming), page_strip_is here s, strips_are n here (s + 1) (omega (arith, upcoming)))
 
   page_is : (endian : Endian) (p q : ℕ) (r : Result PageForm FileFault)
       → IsPageLeftAs endian file p q r (salvage_page endian file p q r)
@@ -50,7 +50,7 @@ module _ (strips : DamagedStripsAreReadByFunctions) (file : List ℕ) where
     refl,
   )
 
-  file_is : (answer : Result Header FileFault) → (let all : List LeftItem = elim answer [
+  file_is : (answer : Result Header FileFault) → (let all : List SalvagedItem = elim answer [
     | Err fault ↦ []
     | Ok head ↦ salvage_pages head.endian file 0 (read_chain head file).offsets
   ] in

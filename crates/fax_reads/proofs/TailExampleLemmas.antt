@@ -4,13 +4,13 @@ use Rattle.fax_bits.specs.Reading.{steps}
 use Rattle.fax_bits.specs.declared.Colour.{Colour}
 use Rattle.fax_bits.specs.Bits.{bits, byte_bits, code_bits}
 use Rattle.fax_bits.specs.Tables.{modes}
-use Rattle.fax_rows.specs.Rows.{first_place, next_change, b1, runs_after}
+use Rattle.fax_rows.specs.Rows.{first_index, next_change, b1, runs_after}
 use Rattle.fax_files.specs.Directory.{entries_at, has_integers, header, number_at, read_chain, read_chain_from, scalar}
-use Rattle.fax_files.specs.Directory.{value_at, values_place}
+use Rattle.fax_files.specs.Directory.{value_at, values_offset}
 use Rattle.fax_walk.specs.Pages.{read_page}
 use Rattle.fax_files.specs.Page.{rational_of, form_in, page, strip_bytes}
 use Rattle.fax_files.specs.Layout.{field_bytes}
-use Rattle.fax_walk.specs.declared.begun.Begun.{Begun}
+use Rattle.fax_walk.specs.declared.walk_start.WalkStart.{WalkStart}
 use Rattle.fax_walk.specs.declared.cursor.Cursor.{Cursor}
 use Rattle.fax_walk.specs.declared.end.End.{End}
 use Rattle.fax_reads.specs.TailReading.{read_tail, read_form_tail}
@@ -20,14 +20,14 @@ use Rattle.fax_reads.specs.laws.TailExamples.{AreTailsOfCursors, AreTailsOfPlace
 use Rattle.fax_reads.specs.laws.TailExamples.{HasFormTail, HasTail}
 
 module _ (read : TailsAreReadByFunctions) where
-  has : (file : List ℕ) (begun : Begun) (rows : List (ℕ × ℕ × List Colour)) (end : End)
-      → map row_and_place (read_tail file begun).items ≡ rows → (read_tail file begun).end ≡ end
-      → HasTail file begun rows end
-  has file begun rows end rows_are end_is =
-      let tail = read_tail file begun in
+  has : (file : List ℕ) (origin : WalkStart) (rows : List (ℕ × ℕ × List Colour)) (end : End)
+      → map row_and_place (read_tail file origin).items ≡ rows → (read_tail file origin).end ≡ end
+      → HasTail file origin rows end
+  has file origin rows end rows_are end_is =
+      let tail = read_tail file origin in
       record {
         items = tail.items;
-        are = rw (← end_is) ((read.rows file begun tail.items tail.end).1 refl);
+        are = rw (← end_is) ((read.rows file origin tail.items tail.end).1 refl);
         rows_are = rows_are;
       }
 
@@ -43,8 +43,8 @@ module _ (read : TailsAreReadByFunctions) where
       }
 
   cursors : AreTailsOfCursors
-  unfolding steps bits byte_bits code_bits modes first_place next_change b1 number_at header read_chain_from read_chain
-      read_page entries_at values_place value_at has_integers scalar rational_of form_in page strip_bytes field_bytes
+  unfolding steps bits byte_bits code_bits modes first_index next_change b1 number_at header read_chain_from read_chain
+      read_page entries_at values_offset value_at has_integers scalar rational_of form_in page strip_bytes field_bytes
       runs_after
   cursors = record {
     first_page = has _ _ _ _ refl refl;
@@ -64,8 +64,8 @@ module _ (read : TailsAreReadByFunctions) where
   }
 
   places : AreTailsOfPlaces
-  unfolding steps bits byte_bits code_bits modes first_place next_change b1 number_at header read_chain_from read_chain
-      read_page entries_at values_place value_at has_integers scalar rational_of form_in page strip_bytes field_bytes
+  unfolding steps bits byte_bits code_bits modes first_index next_change b1 number_at header read_chain_from read_chain
+      read_page entries_at values_offset value_at has_integers scalar rational_of form_in page strip_bytes field_bytes
       runs_after
   places = record {
     second_row = has _ _ _ _ refl refl;
@@ -79,8 +79,8 @@ module _ (read : TailsAreReadByFunctions) where
   }
 
   forms : AreTailsOfForms
-  unfolding steps bits byte_bits code_bits modes first_place next_change b1 number_at header read_chain_from read_chain
-      read_page entries_at values_place value_at has_integers scalar rational_of form_in page strip_bytes field_bytes
+  unfolding steps bits byte_bits code_bits modes first_index next_change b1 number_at header read_chain_from read_chain
+      read_page entries_at values_offset value_at has_integers scalar rational_of form_in page strip_bytes field_bytes
       runs_after
   forms = record {
     first_page = has_forms _ _ _ _ refl refl;

@@ -1,19 +1,20 @@
--- What is handed out from a cursor or a place inside a strip on is what functions say.
+-- What is returned from a cursor or a place inside a strip on is what functions say.
 use Rattle.std.proofs.Common.{arith, ◌≡◌, ℕ, inl, inr, List, [], drop, refl}
 use Rattle.std.proofs.Common.{Bool, true, false, Option, Some, None, Result, Ok, Err}
 use Rattle.std.specs.Prelude.{MatchResult, if◌then◌else◌}
 use Rattle.std.proofs.lemmas.Bool.Decides.{nat_tests}
 use Rattle.std.proofs.lemmas.Slice.Eq.{bytes_eq-Decides}
-use Rattle.fax_bits.specs.laws.Codes.{AreBitsByPlace}
+use Rattle.fax_bits.specs.laws.Codes.{AreBitsByIndex}
 use Rattle.fax_page.specs.laws.StripGraphs.{StripsAreReadByFunctions}
 use Rattle.fax_files.specs.laws.TiffFiles.{FilesHaveOneChain, FormsAreWhole}
-use Rattle.fax_walk.specs.declared.begun.Begun.{Begun}
-use Rattle.fax_walk.specs.declared.begun.Begun.TheVariants.{At, Inside}
+use Rattle.fax_walk.specs.declared.walk_start.WalkStart.{WalkStart}
+use Rattle.fax_walk.specs.declared.walk_start.WalkStart.TheVariants.{AtCursor, AtLongCursor}
 use Rattle.fax_walk.specs.declared.cursor.Cursor.{Cursor}
 use Rattle.fax_walk.specs.declared.end.End.{End}
 use Rattle.fax_walk.specs.declared.end.End.TheVariants.{Outside}
-use Rattle.fax_walk.specs.Pages.{AreFrom, FilePage, IsForm, IsFormTail, LongPlace, first_page, read_page}
-use Rattle.fax_walk.specs.Items.{IsBegunOn, IsInnerOn, IsRow, IsTailFrom, RowItem, RowPlace, begun_cursor, inner_at}
+use Rattle.fax_walk.specs.Pages.{AreFrom, FilePage, IsForm, IsFormTail, LongCursorValue, first_page, read_page}
+use Rattle.fax_walk.specs.Items.{StartsOnPage, IsPositionOn, IsRow, IsTailFrom, RowItem, RowPosition, start_cursor}
+use Rattle.fax_walk.specs.Items.{position_at}
 use Rattle.fax_walk.specs.code.RowPlaces.{FitsStrip}
 use Rattle.fax_walk.proofs.RowLawLemmas.{LinesAreRead, one_tail_from}
 use Rattle.fax_walk.proofs.PageLawLemmas.{one_form_tail}
@@ -25,31 +26,32 @@ use Rattle.fax_reads.specs.laws.Files.{TailsAreReadByFunctions}
 use Rattle.fax_reads.proofs.FileGraph.{both_lists, forms_are, on_page, rows_are}
 
 -- the tests of a place inside a strip decide whether it is one
-fits_so : (width : ℕ) (found : Option (List ℕ)) (place : LongPlace) → fits_strip width found place ≡ true
+fits_so : (width : ℕ) (found : Option (List ℕ)) (place : LongCursorValue) → fits_strip width found place ≡ true
     → FitsStrip width found place
 fits_so width None place e = tt
 fits_so width (Some bytes) place e = grind (arith, nat_tests, bytes_eq-Decides)
 
-so_fits : (width : ℕ) (found : Option (List ℕ)) (place : LongPlace) → FitsStrip width found place
+so_fits : (width : ℕ) (found : Option (List ℕ)) (place : LongCursorValue) → FitsStrip width found place
     → fits_strip width found place ≡ true
 so_fits width None place is = refl
 so_fits width (Some bytes) place is = grind (arith, nat_tests, bytes_eq-Decides)
 
-module _ (file : List ℕ) (here : FilePage) (place : LongPlace) where
-  is_inner : is_inner_on file here place ≡ true → IsInnerOn file here place
+module _ (file : List ℕ) (here : FilePage) (place : LongCursorValue) where
+  is_inner : is_inner_on file here place ≡ true → IsPositionOn file here place
   is_inner e = grind (arith, nat_tests, fits_so)
 
-  inner_is : IsInnerOn file here place → is_inner_on file here place ≡ true
+  inner_is : IsPositionOn file here place → is_inner_on file here place ≡ true
   inner_is is = grind (arith, nat_tests, so_fits)
 
   by_test : (test : Bool) → is_inner_on file here place ≡ test
-      → IsBegunOn file (Inside place) here (if test then Ok (inner_at place, 0) else Err Outside)
+      → StartsOnPage file (AtLongCursor place) here (if test then Ok (position_at place, 0) else Err Outside)
   by_test true e = inl (is_inner e, refl)
   by_test false e = inr (λ is. let yes = inner_is is in absurd cc, refl)
 
-begun_on : (file : List ℕ) (begun : Begun) (here : FilePage) → IsBegunOn file begun here (begin_on file begun here)
-begun_on file (At at) here = refl
-begun_on file (Inside place) here = by_test file here place (is_inner_on file here place) refl
+begun_on : (file : List ℕ) (origin : WalkStart) (here : FilePage)
+    → StartsOnPage file origin here (begin_on file origin here)
+begun_on file (AtCursor at) here = refl
+begun_on file (AtLongCursor place) here = by_test file here place (is_inner_on file here place) refl
 
 module _ (chains : FilesHaveOneChain) (file : List ℕ) where
   forms_by : (begin : Result ℕ End)
@@ -63,10 +65,10 @@ module _ (chains : FilesHaveOneChain) (file : List ℕ) where
   form_tail_is at = forms_by (first_page file at)
 
 module _ (strips : StripsAreReadByFunctions)
-    (by_place : AreBitsByPlace)
+    (by_place : AreBitsByIndex)
     (lines_read : LinesAreRead) (chains : FilesHaveOneChain) (forms : FormsAreWhole) where
   module _ (file : List ℕ) where
-    rows_by : (begin : Result (RowPlace × ℕ) End)
+    rows_by : (begin : Result (RowPosition × ℕ) End)
         → MatchResult begin (λ from. (all : List RowItem) × AreFrom (IsRow file) from.0 all (tail_from file begin).end
         × ((tail_from file begin).items ≡ drop from.1 all))
         (λ none. ((tail_from file begin).items ≡ []) × ((tail_from file begin).end ≡ none))
@@ -77,22 +79,22 @@ module _ (strips : StripsAreReadByFunctions)
       refl,
     )
 
-    tail_is : (begun : Begun) → IsTailFrom file begun (read_tail file begun).items (read_tail file begun).end
-    tail_is begun = (
-      read_page file (begun_cursor begun) >>= begin_on file begun,
-      on_page (read_page file (begun_cursor begun))
-          (λ here (begin : Result (RowPlace × ℕ) End). IsBegunOn file begun here begin) Err
-          (λ found. found >>= begin_on file begun)
+    tail_is : (origin : WalkStart) → IsTailFrom file origin (read_tail file origin).items (read_tail file origin).end
+    tail_is origin = (
+      read_page file (start_cursor origin) >>= begin_on file origin,
+      on_page (read_page file (start_cursor origin))
+          (λ here (begin : Result (RowPosition × ℕ) End). StartsOnPage file origin here begin) Err
+          (λ found. found >>= begin_on file origin)
           (λ end. refl)
-          (begun_on file begun),
-      rows_by (read_page file (begun_cursor begun) >>= begin_on file begun),
+          (begun_on file origin),
+      rows_by (read_page file (start_cursor origin) >>= begin_on file origin),
     )
 
   pub tails_graph : TailsAreReadByFunctions
   tails_graph = record {
-    rows = λ file begun items end. both_lists (one_tail_from by_place lines_read chains forms file begun)
-        (read_tail file begun)
-        (tail_is file begun) items end;
+    rows = λ file origin items end. both_lists (one_tail_from by_place lines_read chains forms file origin)
+        (read_tail file origin)
+        (tail_is file origin) items end;
     forms = λ file at items end. both_lists (one_form_tail chains file at) (read_form_tail file at)
         (form_tail_is chains file at) items end;
   }

@@ -14,13 +14,13 @@ use Rattle.fax_files.specs.Page.{strip_bytes, strip_form}
 use Rattle.fax_walk.specs.declared.end.End.{End}
 use Rattle.fax_walk.specs.declared.end.End.TheVariants.{Fault, Outside}
 use Rattle.fax_walk.specs.Pages.{FormItem, NextItem, goes_on, ends_as, File, Strip, read_page}
-use Rattle.fax_walk.specs.Items.{RowItem, RowPlace, first_at, exchanged, before, place_after}
+use Rattle.fax_walk.specs.Items.{RowItem, RowPosition, first_at, exchanged, before, place_after}
 use Rattle.fax_bits.specs.Reading.{Read, read, failed}
 use Rattle.fax_page.specs.Lines.{read_line}
 
 -- the row that was read at a place of a strip and the place after it, or the end
-abbrev pub row_or_end : PageForm → RowPlace → List ℕ → Read (List Colour) StripFault
-    → NextItem RowItem RowPlace
+abbrev pub row_or_end : PageForm → RowPosition → List ℕ → Read (List Colour) StripFault
+    → NextItem RowItem RowPosition
 row_or_end form at bytes (failed fault) = ends_as (Fault at.page at.row (Strip fault))
 row_or_end form at bytes (read row rest) =
     let item : RowItem = record {
@@ -33,7 +33,7 @@ row_or_end form at bytes (read row rest) =
     goes_on item (place_after item)
 
 -- the row at a place, with what the file has of its strip
-abbrev pub read_in_strip : PageForm → RowPlace → Option (List ℕ) → NextItem RowItem RowPlace
+abbrev pub read_in_strip : PageForm → RowPosition → Option (List ℕ) → NextItem RowItem RowPosition
 read_in_strip form at None =
     ends_as (Fault at.page (at.row / form.rows_per_strip * form.rows_per_strip) (File StripOutside))
 read_in_strip form at (Some bytes) =
@@ -42,7 +42,7 @@ read_in_strip form at (Some bytes) =
     (at.row % form.rows_per_strip) inner.reference (drop inner.bits (bits form.order bytes)))
 
 -- the row at a place of a file and the place after it, or the end
-abbrev pub read_row : List ℕ → RowPlace → NextItem RowItem RowPlace
+abbrev pub read_row : List ℕ → RowPosition → NextItem RowItem RowPosition
 read_row file at =
     elim (read_page file (record { page = at.page; row = at.row })) [
       | Err end ↦ ends_as end
@@ -58,7 +58,7 @@ read_form file p =
       | Ok here ↦ goes_on (record { page = p; form = here.form }) (p + 1)
     ]
 
--- what is handed out from a place on, and the end
+-- what is returned from a place on, and the end
 pub record AllRead (A : Type 0) : Type 0 where
   pub items : List A
   pub end : End
@@ -73,7 +73,7 @@ read_all zero next at = record { items = []; end = Outside }
 read_all (suc limit) next at = all_after (λ to. read_all limit next to) (next at)
 
 -- the rows of a file from a place on, and all of them
-abbrev pub rows_from : List ℕ → RowPlace → AllRead RowItem
+abbrev pub rows_from : List ℕ → RowPosition → AllRead RowItem
 rows_from file at = read_all ((length file + 1) * (most_rows + 1)) (read_row file) at
 
 abbrev pub read_rows : List ℕ → AllRead RowItem

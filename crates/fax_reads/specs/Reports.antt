@@ -57,22 +57,22 @@ is_mmr Mmr = true
 is_mmr _ = false
 
 abbrev pub strip_notes : StripForm → List Bool → List (List Colour) → List Bool → StripNotes
-strip_notes form b rows left =
-    let after = after_mark form.coding left in
+strip_notes form b rows remaining =
+    let after = after_mark form.coding remaining in
     record {
       no_end_of_block = is_mmr form.coding && not (is_some after);
       return_to_control = not (is_mmr form.coding) && is_some after;
-      data_after_end = list_any (λ bit. bit) (unwrap_or after left);
+      data_after_end = list_any (λ bit. bit) (unwrap_or after remaining);
       not_t4_choice = has_other_choice form 0 (white_row form.width) b rows;
     }
 
 -- what is noted of strip s of page p, and what is checked after it, or the end
 abbrev pub noted_by : PageForm → ℕ → ℕ → List Bool → List (List Colour) → List Bool
     → Option StripFault → NextItem (List Note) (ℕ × Option ℕ)
-noted_by form p s b rows left None =
-    goes_on (notes_on_strip p s (strip_notes (strip_form form s) b rows left))
+noted_by form p s b rows remaining None =
+    goes_on (notes_on_strip p s (strip_notes (strip_form form s) b rows remaining))
     (if s + 1 == form.strips then (p + 1, None) else (p, Some (s + 1)))
-noted_by form p s b rows left (Some fault) =
+noted_by form p s b rows remaining (Some fault) =
     ends_as (Fault p (s * form.rows_per_strip + length rows) (Strip fault))
 
 abbrev pub noted_in : PageForm → ℕ → ℕ → Option (List ℕ) → NextItem (List Note) (ℕ × Option ℕ)
@@ -80,7 +80,7 @@ noted_in form p s None = ends_as (Fault p (s * form.rows_per_strip) (File StripO
 noted_in form p s (Some bytes) =
     let b = bits form.order bytes in
     let strip = read_strip (strip_form form s) b in
-    noted_by form p s b strip.rows strip.left strip.end
+    noted_by form p s b strip.rows strip.remaining strip.end
 
 -- what is noted of a page's directory, or of a strip of it
 abbrev pub noted_on : List ℕ → ℕ → Option ℕ → FilePage → NextItem (List Note) (ℕ × Option ℕ)

@@ -24,7 +24,7 @@ pub fn files_are_read_by_functions()
     ensures { FilesAreReadByFunctions }
 {
     fax_page::laws::strips_are_read_by_functions();
-    fax_bits::laws::bits_stand_by_place();
+    fax_bits::laws::bits_stand_by_index();
     fax_page::laws::lines_are_read_in_one_way();
     fax_files::laws::files_have_one_chain();
     fax_files::laws::forms_are_whole();
@@ -37,19 +37,19 @@ pub fn worked_files_are_read()
     files_are_read_by_functions();
 }
 
-/// What a walk hands out, and what a reader of pages does, from a cursor or a place inside a strip
+/// What a walk returns, and what a reader of pages does, from a cursor or a place inside a strip
 /// on, is what functions read of the file's bytes.
 pub fn tails_are_read_by_functions()
     ensures { TailsAreReadByFunctions }
 {
     fax_page::laws::strips_are_read_by_functions();
-    fax_bits::laws::bits_stand_by_place();
+    fax_bits::laws::bits_stand_by_index();
     fax_page::laws::lines_are_read_in_one_way();
     fax_files::laws::files_have_one_chain();
     fax_files::laws::forms_are_whole();
 }
 
-/// What is handed out from worked cursors and places on is what is meant.
+/// What is returned from worked cursors and places on is what is meant.
 pub fn worked_tails_are_read()
     ensures { AreTailsRead }
 {
@@ -74,7 +74,7 @@ pub fn reports_are_read_by_a_function()
     ensures { ReportsAreReadByAFunction }
 {
     fax_page::laws::strips_are_read_by_functions();
-    fax_bits::laws::bits_stand_by_place();
+    fax_bits::laws::bits_stand_by_index();
     fax_page::laws::lines_are_read_in_one_way();
     fax_files::laws::files_have_one_chain();
     fax_files::laws::forms_are_whole();
@@ -126,8 +126,8 @@ pub fn rows_hold_no_eol()
     ensures { RowsHoldNoEol }
 {}
 
-/// A row that is found in a damaged strip, and after which an EOL is due, reaches from its own EOL
-/// to the next one, or nothing but zeros follows it (T.4, section 4.1.2).
+/// A row that is found in a damaged strip, and after which an EOL is expected, reaches from its own
+/// EOL to the next one, or nothing but zeros follows it (T.4, section 4.1.2).
 pub fn found_rows_reach_to_the_next_eol()
     ensures { FoundRowsReachToTheNextEol }
 {}

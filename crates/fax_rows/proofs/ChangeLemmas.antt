@@ -8,42 +8,42 @@ use Rattle.std.specs.Prelude.{◌&&◌, Option, Some, None, unwrap_or}
 use Rattle.std.proofs.lemmas.Bool.{ltb-true, lt-ltb}
 use Rattle.std.proofs.Math.Nat.{eq-or-lt_of_le}
 use Rattle.fax_bits.specs.declared.Colour.{Colour}
-use Rattle.fax_rows.specs.Rows.{other, pel, pel_before, is_changing, is_right_of, first_place, next_change, b1}
+use Rattle.fax_rows.specs.Rows.{other, pel, pel_before, is_changing, is_right_of, first_index, next_change, b1}
 use Rattle.fax_rows.specs.code.Choice.{colour_of}
 
 -- the first of n places from i on that passes the test
-pub record IsFirstPlace (test : ℕ → Bool) (i n place : ℕ) : Type 0 where
-  pub from : i ≤ place
-  pub within : place ≤ i + n
-  pub before : (k : ℕ) → i ≤ k → k < place → test k ≡ false
-  pub there : place < i + n → test place ≡ true
+pub record IsFirstPlace (test : ℕ → Bool) (i n column : ℕ) : Type 0 where
+  pub from : i ≤ column
+  pub within : column ≤ i + n
+  pub before : (k : ℕ) → i ≤ k → k < column → test k ≡ false
+  pub there : column < i + n → test column ≡ true
 
 -- one more place before the others
 first_place_more : (test : ℕ → Bool) (i n : ℕ) (passes : Bool) → test i ≡ passes
-    → IsFirstPlace test (i + 1) n (first_place test (i + 1) n)
-    → IsFirstPlace test i (suc n) (first_place test i (suc n))
-unfolding first_place
+    → IsFirstPlace test (i + 1) n (first_index test (i + 1) n)
+    → IsFirstPlace test i (suc n) (first_index test i (suc n))
+unfolding first_index
 first_place_more test i n passes is more = grind arith
 
-pub first_place_is : (test : ℕ → Bool) (i n : ℕ) → IsFirstPlace test i n (first_place test i n)
-unfolding first_place
+pub first_place_is : (test : ℕ → Bool) (i n : ℕ) → IsFirstPlace test i n (first_index test i n)
+unfolding first_index
 first_place_is test i zero = grind (arith, common_steps)
 first_place_is test i (suc n) = first_place_more test i n (test i) refl (first_place_is test (i + 1) n)
 
 -- where the next changing element right of a place stands
-pub record IsNextChange (row : List Colour) (from : Option ℕ) (place : ℕ) : Type 0 where
-  pub within : place ≤ length row
-  pub before : (k : ℕ) → k < place → is_right_of from k ≡ true → is_changing row k ≡ false
-  pub right : place < length row → is_right_of from place ≡ true
-  pub there : place < length row → is_changing row place ≡ true
+pub record IsNextChange (row : List Colour) (from : Option ℕ) (column : ℕ) : Type 0 where
+  pub within : column ≤ length row
+  pub before : (k : ℕ) → k < column → is_right_of from k ≡ true → is_changing row k ≡ false
+  pub right : column < length row → is_right_of from column ≡ true
+  pub there : column < length row → is_changing row column ≡ true
 
 pub next_change_is : (row : List Colour) (from : Option ℕ) → IsNextChange row from (next_change row from)
 unfolding next_change
 next_change_is row from = grind (arith, first_place_is)
 
 -- up to the next changing element the pel before each has the colour
-pub colour_before : {row : List Colour} (from : Option ℕ) {place : ℕ} → IsNextChange row from place
-    → (k : ℕ) → k ≤ place → is_right_of from k ≡ true → pel_before row k ≡ colour_of row from
+pub colour_before : {row : List Colour} (from : Option ℕ) {column : ℕ} → IsNextChange row from column
+    → (k : ℕ) → k ≤ column → is_right_of from k ≡ true → pel_before row k ≡ colour_of row from
 colour_before None next zero within right = refl
 colour_before {row = row} None next (suc k) within right = grind (arith, colour_before None next k (omega arith) refl)
 colour_before (Some a) next zero within right = absurd (omega (arith, ltb-true a 0 right))
@@ -66,21 +66,21 @@ right_after : (from : Option ℕ) (k : ℕ) → first_of from ≤ k → is_right
 right_after from k h = grind arith
 
 -- the pels from a place up to the next changing element have one colour
-pub colour_up_to : {row : List Colour} {from : Option ℕ} {place : ℕ} → IsNextChange row from place
-    → (k : ℕ) → first_of from ≤ k → k < place → pel row k ≡ colour_of row from
+pub colour_up_to : {row : List Colour} {from : Option ℕ} {column : ℕ} → IsNextChange row from column
+    → (k : ℕ) → first_of from ≤ k → k < column → pel row k ≡ colour_of row from
 colour_up_to {from = from} next k after before = colour_before from next (suc k) (omega arith)
     (right_after from k after)
 
 -- and the changing element has the other
-pub colour_at : {row : List Colour} {from : Option ℕ} {place : ℕ} → IsNextChange row from place
-    → place < length row → pel row place ≡ other (colour_of row from)
+pub colour_at : {row : List Colour} {from : Option ℕ} {column : ℕ} → IsNextChange row from column
+    → column < length row → pel row column ≡ other (colour_of row from)
 colour_at next inside = grind (arith, common_steps, colour_before)
 
 -- the next changing element is not left of the place
-pub next_is_ahead : {row : List Colour} (from : Option ℕ) {place : ℕ} → IsNextChange row from place
-    → first_of from ≤ length row → first_of from ≤ place
+pub next_is_ahead : {row : List Colour} (from : Option ℕ) {column : ℕ} → IsNextChange row from column
+    → first_of from ≤ length row → first_of from ≤ column
 next_is_ahead None next within = omega arith
-next_is_ahead {row = row} (Some a) {place = place} next within = grind (arith, common_steps)
+next_is_ahead {row = row} (Some a) {column = column} next within = grind (arith, common_steps)
 
 -- pels of one colour
 replicate_pels : (row : List Colour) (n : ℕ) (colour : Colour) → n ≤ length row

@@ -18,7 +18,7 @@ use Rattle.fax_bits.specs.Written.{run_bits}
 use Rattle.fax_rows.specs.Rows.{other, pel, next_change, is_right_of, b1, b2, Position, a0_number}
 use Rattle.fax_rows.specs.code.CodingSteps.{IsStepBy}
 use Rattle.fax_rows.specs.laws.Rows.{HasWidth}
-use Rattle.fax_rows.specs.code.Choice.{places, colour_of, chosen_mode, run_pair_bits, next_a0}
+use Rattle.fax_rows.specs.code.Choice.{changes, colour_of, canonical_mode, run_pair_bits, next_a0}
 use Rattle.fax_rows.proofs.ChangeLemmas.{IsNextChange, next_change_is, colour_up_to, colour_at, next_is_ahead}
 use Rattle.fax_rows.proofs.ChangeLemmas.{pels_up_to, first_of}
 use Rattle.fax_rows.proofs.ChangeLemmas.{next_of_within, next_of_right}
@@ -41,40 +41,40 @@ colour_after _ colour = colour
 pub record IsChosen (reference row : List Colour) (a0 : Option ℕ) (rest : List Bool) (mode : ModeCode) : Type 0 where
   pub written : IsWritten mode
   pub step : IsStepBy mode reference (here row a0 (colour_of row a0))
-      (run_pair_bits mode row a0 (places reference row a0) ++ rest)
-      (here row (Some (next_a0 mode (places reference row a0))) (colour_after mode (colour_of row a0))) rest
-  pub right : passed a0 < passed (Some (next_a0 mode (places reference row a0)))
-  pub within : next_a0 mode (places reference row a0) ≤ length row
-  pub colour : next_a0 mode (places reference row a0) < length row
-      → colour_after mode (colour_of row a0) ≡ pel row (next_a0 mode (places reference row a0))
+      (run_pair_bits mode row a0 (changes reference row a0) ++ rest)
+      (here row (Some (next_a0 mode (changes reference row a0))) (colour_after mode (colour_of row a0))) rest
+  pub right : passed a0 < passed (Some (next_a0 mode (changes reference row a0)))
+  pub within : next_a0 mode (changes reference row a0) ≤ length row
+  pub colour : next_a0 mode (changes reference row a0) < length row
+      → colour_after mode (colour_of row a0) ≡ pel row (next_a0 mode (changes reference row a0))
 
 pub passed_within : (from : Option ℕ) (width : ℕ) → first_of from < width → passed from ≤ width
 passed_within from width h = grind arith
 
 -- a place right of the start of a step, or the width, is passed later
-passes : (from : Option ℕ) (place width : ℕ) → first_of from < width → place ≤ width
-    → (place < width → is_right_of from place ≡ true)
-    → passed from ≤ place
-passes from place width unfinished within right = grind (arith, common_steps)
+passes : (from : Option ℕ) (column width : ℕ) → first_of from < width → column ≤ width
+    → (column < width → is_right_of from column ≡ true)
+    → passed from ≤ column
+passes from column width unfinished within right = grind (arith, common_steps)
 
-pub first_passed : (from : Option ℕ) (place : ℕ) → passed from ≤ place → first_of from ≤ place
-first_passed from place h = grind arith
+pub first_passed : (from : Option ℕ) (column : ℕ) → passed from ≤ column → first_of from ≤ column
+first_passed from column h = grind arith
 
-number_passes : (from : Option ℕ) (colour : Colour) (pels : List Colour) (place : ℕ) → passed from ≤ place
-    → a0_number (record { a0 = from; colour = colour; pels = pels }) <ℤ pos place
-number_passes from colour pels place h = grind arith
+number_passes : (from : Option ℕ) (colour : Colour) (pels : List Colour) (column : ℕ) → passed from ≤ column
+    → a0_number (record { a0 = from; colour = colour; pels = pels }) <ℤ pos column
+number_passes from colour pels column h = grind arith
 
 -- a difference of at most 3 places
 near_is_written : (d : ℤ) → nat_abs d ≤ 3 → (negsuc 2 ≤ℤ d) × (d ≤ℤ pos 3)
 near_is_written d near = grind arith
 
 -- a place right of the start of a step, and not after the row
-pub record IsPlaceAhead (from : Option ℕ) (width place : ℕ) : Type 0 where
-  pub right : passed from ≤ place
-  pub within : place ≤ width
+pub record IsPlaceAhead (from : Option ℕ) (width column : ℕ) : Type 0 where
+  pub right : passed from ≤ column
+  pub within : column ≤ width
 
-pub passed_right : (from : Option ℕ) (place : ℕ) → passed from ≤ place → is_right_of from place ≡ true
-passed_right from place h = grind arith
+pub passed_right : (from : Option ℕ) (column : ℕ) → passed from ≤ column → is_right_of from column ≡ true
+passed_right from column h = grind arith
 
 module _ (reference row : List Colour) (same_width : length reference ≡ length row) (a0 : Option ℕ)
     (unfinished : first_of a0 < length row) where
@@ -106,7 +106,7 @@ module _ (reference row : List Colour) (same_width : length reference ≡ length
 
   pass_chosen : (rest : List Bool) → b2 reference a0 (colour_of row a0) < next_change row a0
       → IsChosen reference row a0 rest Pass
-  pass_chosen rest left =
+  pass_chosen rest remaining =
       let ahead = first_passed a0 (b2 reference a0 (colour_of row a0)) b2_right in
       let pels = pels_up_to row (first_of a0) (b2 reference a0 (colour_of row a0)) (colour_of row a0) ahead b2_within
       (λ k h l. colour_up_to a1_is k h (omega arith)) in
@@ -115,7 +115,7 @@ module _ (reference row : List Colour) (same_width : length reference ≡ length
         step = (cc, refl);
         right = omega (arith, b2_right);
         within = b2_within;
-        colour = λ h. sym (colour_up_to a1_is (b2 reference a0 (colour_of row a0)) ahead left);
+        colour = λ h. sym (colour_up_to a1_is (b2 reference a0 (colour_of row a0)) ahead remaining);
       }
 
   -- where a1 stands as seen from b1
@@ -215,12 +215,12 @@ module _ (reference row : List Colour) (same_width : length reference ≡ length
       (if pass then Pass
       else (if near then Vertical (pos (next_change row a0) -ℤ pos (b1 reference a0 (colour_of row a0))) else
       Horizontal))
-  by_tests runs_read limits rest true near is close = pass_chosen rest (ltb-true _ _ is)
-  by_tests runs_read limits rest false true is close = vertical_chosen rest (grind (arith, nat_tests))
-  by_tests runs_read limits rest false false is close = horizontal_chosen runs_read limits rest
+  by_tests runs_read limits rest true near is put_sentinels = pass_chosen rest (ltb-true _ _ is)
+  by_tests runs_read limits rest false true is put_sentinels = vertical_chosen rest (grind (arith, nat_tests))
+  by_tests runs_read limits rest false false is put_sentinels = horizontal_chosen runs_read limits rest
 
   pub chosen : RunBitsAreRead → HasWidth row → (rest : List Bool)
-      → IsChosen reference row a0 rest (chosen_mode (places reference row a0))
+      → IsChosen reference row a0 rest (canonical_mode (changes reference row a0))
   chosen runs_read limits rest = by_tests runs_read limits rest _ _ refl refl
 
   -- the next step begins further right, and within the row
@@ -230,9 +230,9 @@ module _ (reference row : List Colour) (same_width : length reference ≡ length
       (if pass then Pass
       else (if near then Vertical (pos (next_change row a0) -ℤ pos (b1 reference a0 (colour_of row a0))) else
       Horizontal))
-      (places reference row a0))
+      (changes reference row a0))
   place_by_tests pass near is = grind (arith, b2_right, b2_within, a1_right, a2_ahead, a2_is)
 
-  pub place_ahead : IsPlaceAhead a0 (length row) (next_a0 (chosen_mode (places reference row a0))
-      (places reference row a0))
-  place_ahead = place_by_tests _ _ refl
+  pub a0_ahead : IsPlaceAhead a0 (length row) (next_a0 (canonical_mode (changes reference row a0))
+      (changes reference row a0))
+  a0_ahead = place_by_tests _ _ refl

@@ -22,8 +22,8 @@ use Rattle.fax_rows.specs.Rows.{a0_number}
 use Rattle.fax_rows.specs.Rows.{coloured_up_to}
 use Rattle.fax_rows.specs.code.CodingSteps.{IsVerticalStep}
 use Rattle.fax_rows.specs.code.Seen.{b1_from, b2_from}
-use Rattle.fax_rows.specs.code.Choice.{Places, places, colour_of, chosen_mode, run_pair_bits, next_a0}
-use Rattle.fax_rows.specs.code.Chosen.{GoesOnFrom, IsStepOf, IsChosenPair}
+use Rattle.fax_rows.specs.code.Choice.{Places, changes, colour_of, canonical_mode, run_pair_bits, next_a0}
+use Rattle.fax_rows.specs.code.Chosen.{ExtendsPosition, IsStepOf, IsCanonicalPair}
 use Rattle.fax_rows.proofs.ChangeLemmas.{first_of, next_change_is, still_left}
 use Rattle.fax_rows.proofs.ChangePlaceLemmas.{next_change_at}
 use Rattle.fax_rows.proofs.PlacedStepLemmas.{right_after_first}
@@ -38,15 +38,16 @@ module _ (row : List Colour) (from : Option ℕ) (colour : Colour) (to : ℕ) (s
 
   next_is : to ≤ length row → is_right_of from to ≡ true → (to < length row → pel row to ≡ other colour)
       → to ≡ next_change row from
-  next_is within right turn =
+  next_is within right toggle_change =
       next_change_at row from to within
       (λ k h. still_left (is_right_of from k) (is_changing row k)
       (λ l. same_as (pel row k) (pel_before row k) (each k (right_after_first from k l) h
       ∙ sym (before_is k (omega arith) l))))
       (λ h. and_from (is_right_of from to) (is_changing row to) right
-      (other_than (pel row to) (pel_before row to) (turn h ∙ ap other (sym (before_is to (omega arith) right)))))
+      (other_than (pel row to) (pel_before row to) (toggle_change h
+      ∙ ap other (sym (before_is to (omega arith) right)))))
 
-  -- where the colour goes on, the next changing element is further right
+  -- where the colour continues, the next changing element is further right
   next_after : to < length row → pel row to ≡ colour → to < next_change row from
   next_after inside goes_on = grind (arith, next_change_is)
 
@@ -80,23 +81,24 @@ apart a b h = grind arith
 module _ (reference row : List Colour) (same : length row ≡ length reference) (old : Position)
     (start : old.a0 ≡ None → White ≡ old.colour)
     (len : length old.pels ≡ first_pel old) (unfinished : first_pel old < length reference) where
-  -- the pels that are read go on up to a place right of a0
+  -- the pels that are read continue up to a place right of a0
   goes_on_from : (to : ℕ) (tail : List Colour) → first_pel old ≤ to → to ≤ length row → old.pels ++ tail ≡ take to row
-      → ((a : ℕ) → old.a0 ≡ Some a → a < length row → pel row a ≡ old.colour) → GoesOnFrom row old
+      → ((a : ℕ) → old.a0 ≡ Some a → a < length row → pel row a ≡ old.colour) → ExtendsPosition row old
   goes_on_from to tail order within read coloured = search (rules, read_before)
 
-  old_colour : GoesOnFrom row old → first_pel old < length row → colour_of row old.a0 ≡ old.colour
+  old_colour : ExtendsPosition row old → first_pel old < length row → colour_of row old.a0 ≡ old.colour
   old_colour goes inside = grind (arith, common_steps)
 
   -- what the mode that is chosen writes, and where it leads
-  step_is : (at : Places) (mode : ModeCode) (b : List Bool) (new : Position) (rest : List Bool) → GoesOnFrom row old
-      → places reference row old.a0 ≡ at → chosen_mode at ≡ mode → new.a0 ≡ Some (next_a0 mode at)
+  step_is : (at : Places) (mode : ModeCode) (b : List Bool) (new : Position) (rest : List Bool)
+      → ExtendsPosition row old
+      → changes reference row old.a0 ≡ at → canonical_mode at ≡ mode → new.a0 ≡ Some (next_a0 mode at)
       → b ≡ (mode_bits mode ++ run_pair_bits mode row old.a0 at) ++ rest → IsStepOf reference row old b new rest
-  step_is at mode b new rest goes at_is mode_is place bits = grind (arith, common_steps)
+  step_is at mode b new rest goes at_is mode_is column bits = grind (arith, common_steps)
 
   places_are : (a1 a2 : ℕ) → a1 ≡ next_change row old.a0 → a2 ≡ next_change row (Some a1)
       → colour_of row old.a0 ≡ old.colour
-      → places reference row old.a0 ≡ record {
+      → changes reference row old.a0 ≡ record {
         a1 = a1;
         a2 = a2;
         b1 = b1_from reference old;
@@ -107,12 +109,12 @@ module _ (reference row : List Colour) (same : length row ≡ length reference) 
 
   pub vertical_is : (d : ℤ) (b : List Bool) (new : Position) (rest : List Bool) → IsVerticalStep reference old d new
       → b ≡ mode_bits (Vertical d) ++ rest → is_near (Vertical d) ≡ true → first_pel new ≤ b2_from reference old
-      → GoesOnFrom row new
+      → ExtendsPosition row new
       → IsStepOf reference row old b new rest
-  vertical_is d b new rest step bits near left goes =
-      let goes_on = subst (GoesOnFrom row) step.new_is goes in
+  vertical_is d b new rest step bits near remaining goes =
+      let goes_on = subst (ExtendsPosition row) step.new_is goes in
       let a1 = step.a1 in
-      let a1_left : a1 ≤ b2_from reference old = rw step.new_is at left in
+      let a1_left : a1 ≤ b2_from reference old = rw step.new_is at remaining in
       let right : is_right_of old.a0 a1 ≡ true =
       right_of_number old.a0 old.colour old.pels a1 (omega (arith, ints, step.a1_is, step.in_row.right_of_a0)) in
       let order : first_pel old ≤ a1 = right_after_first old.a0 a1 right in
@@ -135,10 +137,10 @@ module _ (reference row : List Colour) (same : length row ≡ length reference) 
 
   pub pass_is : (b : List Bool) (new : Position) (rest : List Bool) → new ≡ coloured_up_to old (b2_from reference old)
       → b ≡ mode_bits Pass ++ rest → first_pel old ≤ b2_from reference old → first_pel new < length reference
-      → GoesOnFrom row new
+      → ExtendsPosition row new
       → IsStepOf reference row old b new rest
   pass_is b new rest new_is bits order ends goes =
-      let goes_on = subst (GoesOnFrom row) new_is goes in
+      let goes_on = subst (ExtendsPosition row) new_is goes in
       let to = b2_from reference old in
       let to_ends : to < length reference = rw new_is at ends in
       let below : to < length row = omega (arith, same) in
@@ -180,10 +182,10 @@ module _ (reference row : List Colour) (same : length row ≡ length reference) 
       ]
 
   pub horizontal_is : {b middle : List Bool} {new : Position} {rest : List Bool}
-      → IsChosenPair reference old middle new rest
-      → b ≡ mode_bits Horizontal ++ middle → GoesOnFrom row new → IsStepOf reference row old b new rest
+      → IsCanonicalPair reference old middle new rest
+      → b ≡ mode_bits Horizontal ++ middle → ExtendsPosition row new → IsStepOf reference row old b new rest
   horizontal_is {b = b} {new = new} {rest = rest} pair bits goes =
-      let goes_on = subst (GoesOnFrom row) pair.new_is goes in
+      let goes_on = subst (ExtendsPosition row) pair.new_is goes in
       let first = pair.first in
       let second = pair.second in
       let a1 = first_pel old + first in
@@ -209,7 +211,8 @@ module _ (reference row : List Colour) (same : length row ≡ length reference) 
       omega arith) each_other
       (goes_on.coloured to refl) in
       let at = places_are a1 to a1_is a2_is colour in
-      let not_pass : nat_lt (b2_from reference old) a1 ≡ false = let left = pair.left in grind (arith, nat_tests) in
+      let not_pass : nat_lt (b2_from reference old) a1 ≡ false = let left_hand = pair.left_hand
+      in grind (arith, nat_tests) in
       let far = far_apart (pos a1 -ℤ pos (b1_from reference old)) (apart a1 (b1_from reference old) pair.far) in
       let not_near : nat_le (nat_abs (pos a1 -ℤ pos (b1_from reference old))) 3 ≡ false = grind (arith, nat_tests) in
       let first_is : a1 - unwrap_or old.a0 0 ≡ first = omega arith in

@@ -7,14 +7,14 @@ use Rattle.fax_bits.specs.declared.Colour.{Colour}
 use Rattle.fax_bits.specs.declared.Colour.TheVariants.{White}
 use Rattle.fax_bits.specs.Written.{run_bits}
 use Rattle.fax_rows.specs.Coded.{alternating_bits, one_dimensional_bits}
-use Rattle.fax_rows.specs.Rows.{other, pels_of, runs_of}
+use Rattle.fax_rows.specs.Rows.{other, pels_of_runs, runs_of}
 use Rattle.fax_rows.proofs.CodedRunLemmas.{colour_after_runs}
 use Rattle.fax_rows.specs.laws.Rows.{OneDimensionalBitsAreRead}
 use Rattle.fax_bits.specs.Reading.{read}
 use Rattle.fax_bits.proofs.StepsLemmas.{one_answer}
 use Rattle.fax_rows.specs.ReadRows.{read_one_dimensional}
 use Rattle.fax_rows.proofs.GivenRunLemmas.{longest_are_back}
-use Rattle.fax_rows.proofs.RowLaws.{length-pels_of}
+use Rattle.fax_rows.proofs.RowLaws.{length-pels_of_runs}
 use Rattle.fax_rows.proofs.RowLemmas.{colour_after_runs-push}
 use Rattle.fax_rows.proofs.RunReadLemmas.{sum-cons}
 use Rattle.fax_rows.proofs.RunLemmas.{sum-push}
@@ -53,13 +53,13 @@ some_push : (runs : List ℕ) (n : ℕ) → ((i : ℕ) → 0 < i → i < length 
     → (i : ℕ) → 0 < i → i < length (runs ++ n ∷ []) → 0 < get_or (runs ++ n ∷ []) i 0
 some_push runs n some fits i h l = grind (arith, common_steps)
 
-pub runs_go_on : (b : List Bool) (total place : ℕ) (colour : Colour) (mid rest : List Bool)
+pub runs_go_on : (b : List Bool) (total column : ℕ) (colour : Colour) (mid rest : List Bool)
     → AreWrittenRuns b total colour mid
-    → total ≤ place → mid ≡ run_bits colour (place - total) ++ rest
-    → (0 < place - total) ⊎ ((total ≡ 0) × (colour ≡ White))
-    → AreWrittenRuns b place (other colour) rest
-runs_go_on b total place colour mid rest so_far right run fits =
-    let n = place - total in
+    → total ≤ column → mid ≡ run_bits colour (column - total) ++ rest
+    → (0 < column - total) ⊎ ((total ≡ 0) × (colour ≡ White))
+    → AreWrittenRuns b column (other colour) rest
+runs_go_on b total column colour mid rest so_far right run fits =
+    let n = column - total in
     record {
       runs = so_far.runs ++ n ∷ [];
       bits = so_far.bits ∙ ap (λ c. alternating_bits White so_far.runs ++ c)
@@ -82,8 +82,8 @@ pub runs_end : OneDimensionalBitsAreRead → (width : ℕ) (b : List Bool) (tota
     (rest : List Bool) → AreWrittenRuns b total colour rest → total ≡ width → 0 < width → width < 2 ^ 16
     → read_one_dimensional width b ≡ read row rest → b ≡ one_dimensional_bits row ++ rest
 runs_end back width b total colour row rest written done some short is =
-    let own = pels_of White written.runs in
-    let len : length own ≡ width = length-pels_of White written.runs ∙ sym written.sum_is ∙ done in
+    let own = pels_of_runs White written.runs in
+    let len : length own ≡ width = length-pels_of_runs White written.runs ∙ sym written.sum_is ∙ done in
     let longest : runs_of own ≡ written.runs =
     longest_are_back written.runs width some (record { whole = sym written.sum_is ∙ done; some = written.some }) in
     let bits : b ≡ one_dimensional_bits own ++ rest = written.bits

@@ -1,4 +1,4 @@
--- The two colours, and what a test of two of them tells.
+-- The two colours, and what a test of two of them says.
 use Rattle.std.proofs.Common.{arith, ◌≡◌, ◌≢◌, true, false, not}
 use Rattle.fax_bits.specs.declared.Colour.{Colour}
 use Rattle.fax_rows.specs.Rows.{other, same_colour}

@@ -16,8 +16,8 @@ use Rattle.fax_bits.specs.declared.FillOrder.TheVariants.{MsbFirst}
 use Rattle.fax_bits.specs.declared.Colour.{Colour}
 use Rattle.fax_bits.specs.declared.Colour.TheVariants.{White, Black}
 use Rattle.fax_bits.specs.Bits.{bits}
-use Rattle.fax_bits.specs.laws.Codes.{AreBitsByPlace}
-use Rattle.fax_rows.specs.Rows.{same_colour, first_place, other}
+use Rattle.fax_bits.specs.laws.Codes.{AreBitsByIndex}
+use Rattle.fax_rows.specs.Rows.{same_colour, first_index, other}
 use Rattle.fax_rows.specs.Coded.{colour_of_bit}
 use Rattle.fax_rows.specs.views.Packed.{first_other}
 use Rattle.fax_rows.specs.code.FirstOther.{is_other_bit, first_other_in_byte, plain_byte, others, IsFirstOtherByte}
@@ -42,7 +42,7 @@ abbrev is_by_zeros : Colour → ℕ → ℕ → Bool
 is_by_zeros colour from byte = nat_eq (by_zeros byte from colour) (first_other_in_byte byte from colour)
 
 each_by_zeros : (colour : Colour) → all_below (λ from. all_below (is_by_zeros colour from) 256) 8 ≡ true
-unfolding first_other_in_byte first_place count_leading_zeros
+unfolding first_other_in_byte first_index count_leading_zeros
 each_by_zeros White = refl
 each_by_zeros Black = refl
 
@@ -85,7 +85,7 @@ abbrev is_plain_or_less : Colour → ℕ → Bool
 is_plain_or_less colour byte = nat_eq byte (plain_byte colour) || nat_lt (first_other_in_byte byte 0 colour) 8
 
 other_has_one : (colour : Colour) → all_below (is_plain_or_less colour) 256 ≡ true
-unfolding first_other_in_byte first_place
+unfolding first_other_in_byte first_index
 other_has_one colour = grind arith
 
 pub found_in_byte : (byte : ℕ) (colour : Colour) → byte < 256 → byte ≢ plain_byte colour
@@ -198,7 +198,7 @@ white_bit : (b : Bool) → not (same_colour (colour_of_bit b) White) ≡ false �
 white_bit b h = grind arith
 
 -- by the law of the bits of bytes
-module _ (law : AreBitsByPlace) where
+module _ (law : AreBitsByIndex) where
   pub plain_in_byte : (bytes : List ℕ) (colour : Colour) (q from to : ℕ) → q < length bytes → from < 8
       → to ≤ first_other_in_byte (get_or bytes q 0) from colour → IsPlain bytes colour (8 * q + from) (8 * q + to)
   unfolding first_other_in_byte

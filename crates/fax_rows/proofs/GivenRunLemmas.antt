@@ -8,57 +8,57 @@ use Rattle.std.proofs.lemmas.List.{ext_get_or}
 use Rattle.std.proofs.lemmas.List.Sums.{sum_by-take-le}
 use Rattle.fax_bits.specs.declared.Colour.{Colour}
 use Rattle.fax_bits.specs.declared.Colour.TheVariants.{White, Black}
-use Rattle.fax_rows.specs.Rows.{other, pels_of, runs_after, runs_of}
+use Rattle.fax_rows.specs.Rows.{other, pels_of_runs, runs_after, runs_of}
 use Rattle.fax_rows.proofs.CodedRunLemmas.{colour_after_runs}
 use Rattle.fax_rows.specs.code.LongestRuns.{AreLongest}
-use Rattle.fax_rows.specs.code.Turns.{turned, pels_by, IsTurnedFrom}
-use Rattle.fax_rows.proofs.PlacedRowLemmas.{turned-first}
-use Rattle.fax_rows.proofs.RowLaws.{length-pels_of}
-use Rattle.fax_rows.proofs.RowLemmas.{pels_of-push, colour_after_runs-push}
-use Rattle.fax_rows.proofs.TurnLemmas.{length-pels_by, pel-pels_by}
-use Rattle.fax_rows.proofs.WrittenLemmas.{pels_of-runs_after}
+use Rattle.fax_rows.specs.code.ChangeLists.{toggled, pels_of_changes, IsToggledFrom}
+use Rattle.fax_rows.proofs.PlacedRowLemmas.{toggled-first}
+use Rattle.fax_rows.proofs.RowLaws.{length-pels_of_runs}
+use Rattle.fax_rows.proofs.RowLemmas.{pels_of_runs-push, colour_after_runs-push}
+use Rattle.fax_rows.proofs.TurnLemmas.{length-pels_of_changes, pel-pels_of_changes}
+use Rattle.fax_rows.proofs.WrittenLemmas.{pels_of_runs-runs_after}
 
 -- the places so far are those where these runs end
-pub record ArePutRuns (runs : List ℕ) (total : ℕ) (places : List ℕ) : Type 0 where
+pub record ArePutRuns (runs : List ℕ) (total : ℕ) (changes : List ℕ) : Type 0 where
   pub sum_is : total ≡ sum runs
-  pub pels : (k : ℕ) → k < total → turned Black places k ≡ get_or (pels_of White runs) k White
-  pub after : (k : ℕ) → total ≤ k → turned Black places k ≡ colour_after_runs White runs
+  pub pels : (k : ℕ) → k < total → toggled Black changes k ≡ get_or (pels_of_runs White runs) k White
+  pub after : (k : ℕ) → total ≤ k → toggled Black changes k ≡ colour_after_runs White runs
 
 -- before the first run
-pub put_none : (places : List ℕ) → 0 < length places → get_or places 0 0 ≡ 0 → ArePutRuns [] 0 (take 1 places)
-put_none places some first = grind (arith, turned-first)
+pub put_none : (changes : List ℕ) → 0 < length changes → get_or changes 0 0 ≡ 0 → ArePutRuns [] 0 (take 1 changes)
+put_none changes some first = grind (arith, toggled-first)
 
 -- one run more
 pub put_run : (runs : List ℕ) (total n : ℕ) (old new : List ℕ) → ArePutRuns runs total old
-    → IsTurnedFrom old new (total + n)
+    → IsToggledFrom old new (total + n)
     → ArePutRuns (runs ++ n ∷ []) (total + n) new
-put_run runs total n old new put turn = grind (
+put_run runs total n old new put toggle_change = grind (
   arith,
   common_steps,
-  pels_of-push,
+  pels_of_runs-push,
   colour_after_runs-push,
-  length-pels_of,
+  length-pels_of_runs,
 )
 
 -- the next of the runs
 pub put_next_run : (runs : List ℕ) (i total n : ℕ) (old new : List ℕ) → i < length runs → n ≡ get_or runs i 0
-    → ArePutRuns (take i runs) total old → IsTurnedFrom old new (total + n)
+    → ArePutRuns (take i runs) total old → IsToggledFrom old new (total + n)
     → ArePutRuns (take (i + 1) runs) (total + n) new
-put_next_run runs i total n old new inside is put turn = grind (arith, common_steps, put_run)
+put_next_run runs i total n old new inside is put toggle_change = grind (arith, common_steps, put_run)
 
 -- runs in front are no longer than all together
 pub part_within : (runs : List ℕ) (i : ℕ) → sum (take i runs) ≤ sum runs
 part_within runs i = sum_by-take-le (λ n. n) runs i
 
 -- all runs of a row
-pub put_all_runs : {runs : List ℕ} {total : ℕ} {places : List ℕ} {width : ℕ} → ArePutRuns runs total places
+pub put_all_runs : {runs : List ℕ} {total : ℕ} {changes : List ℕ} {width : ℕ} → ArePutRuns runs total changes
     → sum runs ≡ width
-    → pels_by width places ≡ pels_of White runs
-put_all_runs {runs = runs} {places = places} {width = width} put whole =
-    ext_get_or White (pels_by width places) (pels_of White runs)
-    (length-pels_by width places ∙ sym whole ∙ sym (length-pels_of White runs))
-    (λ k h. let inside : k < width = omega (arith, length-pels_by width places) in
-    pel-pels_by width places k inside ∙ put.pels k (omega (arith, put.sum_is)))
+    → pels_of_changes width changes ≡ pels_of_runs White runs
+put_all_runs {runs = runs} {changes = changes} {width = width} put whole =
+    ext_get_or White (pels_of_changes width changes) (pels_of_runs White runs)
+    (length-pels_of_changes width changes ∙ sym whole ∙ sym (length-pels_of_runs White runs))
+    (λ k h. let inside : k < width = omega (arith, length-pels_of_changes width changes) in
+    pel-pels_of_changes width changes k inside ∙ put.pels k (omega (arith, put.sum_is)))
 
 -- pels of the run's colour make it longer
 longer : (colour : Colour) (n m : ℕ) (pels : List Colour)
@@ -70,7 +70,7 @@ longer Black n (suc m) pels = longer Black (n + 1) m pels ∙ ap (λ k. runs_aft
 
 -- after a run stand the runs of the pels after it, where none of them is 0
 runs_follow : (colour : Colour) (n : ℕ) (runs : List ℕ) → ((i : ℕ) → i < length runs → 0 < get_or runs i 0)
-    → runs_after colour n (pels_of (other colour) runs) ≡ n ∷ runs
+    → runs_after colour n (pels_of_runs (other colour) runs) ≡ n ∷ runs
 unfolding runs_after
 runs_follow colour n [] some = refl
 runs_follow colour n (zero ∷ runs) some = absurd (omega (arith, some 0 (omega arith)))
@@ -89,10 +89,10 @@ runs_follow Black n (suc m ∷ runs) some = grind (
 
 -- the row of such runs has them as its longest ones
 pub longest_are_back : (runs : List ℕ) (width : ℕ) → 0 < width → AreLongest runs width
-    → runs_of (pels_of White runs) ≡ runs
+    → runs_of (pels_of_runs White runs) ≡ runs
 longest_are_back [] width some longest = absurd (omega (arith, longest.whole))
 longest_are_back (n ∷ runs) width some longest =
-    longer White 0 n (pels_of Black runs)
+    longer White 0 n (pels_of_runs Black runs)
     ∙ runs_follow White (0 + n) runs (λ i h. longest.some (suc i) (omega arith) (omega arith))
     ∙ ap (λ k. k ∷ runs) (omega arith)
 
@@ -124,8 +124,8 @@ first_may_be_0 Black n (White ∷ pels) (suc i) some h = none_is_0 White 1 pels 
 -- the runs of a row are such
 pub runs_are_longest : (row : List Colour) → AreLongest (runs_of row) (length row)
 runs_are_longest row = record {
-  whole = sym (length-pels_of White (runs_of row)) ∙ ap (λ (xs : List Colour). length xs)
-      (pels_of-runs_after White 0 row);
+  whole = sym (length-pels_of_runs White (runs_of row)) ∙ ap (λ (xs : List Colour). length xs)
+      (pels_of_runs-runs_after White 0 row);
   some = first_may_be_0 White 0 row;
 }
 

@@ -7,27 +7,28 @@ use Rattle.fax_bits.specs.declared.codes.CodeEntry.{CodeEntry}
 use Rattle.fax_bits.specs.declared.Colour.{Colour}
 use Rattle.fax_bits.specs.declared.mode_codes.ModeCode.{ModeCode}
 use Rattle.fax_bits.specs.declared.mode_codes.ModeCode.TheVariants.{Pass, Horizontal, Vertical, Extension}
-use Rattle.fax_bits.specs.Codes.{Takes, bits_of}
+use Rattle.fax_bits.specs.Codes.{Decodes, bits_of}
 use Rattle.fax_bits.specs.views.Source.{Source}
-use Rattle.fax_rows.specs.declared.two_dimensional.horizontal_runs.Due.{Due}
-use Rattle.fax_rows.specs.declared.two_dimensional.horizontal_runs.Due.TheVariants.{Mode, Runs}
+use Rattle.fax_rows.specs.declared.two_dimensional.horizontal_runs.NeedsTable.{NeedsTable}
+use Rattle.fax_rows.specs.declared.two_dimensional.horizontal_runs.NeedsTable.TheVariants.{Mode, Runs}
 use Rattle.fax_rows.specs.Rows.{Position, beginning}
 use Rattle.fax_rows.specs.code.CodingSteps.{IsStep, IsStepBy}
-use Rattle.fax_rows.specs.code.Chosen.{AreChosenSteps, GoesOn, GoesOnAsChosen}
-use Rattle.fax_rows.specs.code.Due.{AreRunsDue, IsDue}
+use Rattle.fax_rows.specs.code.Chosen.{AreCanonicalSteps, ReachesBySteps, ReachesByCanonicalSteps}
+use Rattle.fax_rows.specs.code.NeedsTable.{AreRunsNeeded, IsNeeded}
 use Rattle.fax_rows.proofs.ChosenRowLemmas.{IsChosenSoFar, chosen_begins, chosen_goes_on as row_goes_on}
 use Rattle.fax_rows.proofs.RunLemmas.{run_after}
 
-pub no_step : (reference : List Colour) (at : Position) (b : List Bool) → GoesOn reference at b at b
+pub no_step : (reference : List Colour) (at : Position) (b : List Bool) → ReachesBySteps reference at b at b
 no_step reference at b = record { front = []; parts = refl; reads = refl }
 
-pub no_chosen_step : (reference : List Colour) (at : Position) (b : List Bool) → GoesOnAsChosen reference at b at b
+pub no_chosen_step : (reference : List Colour) (at : Position) (b : List Bool)
+    → ReachesByCanonicalSteps reference at b at b
 no_chosen_step reference at b = record { positions = []; steps = (refl, refl) }
 
 pub goes_further : {reference : List Colour} {first : Position} {b : List Bool} {old : Position} {mid : List Bool}
     {new : Position}
-    {rest : List Bool} → GoesOn reference first b old mid → GoesOn reference old mid new rest
-    → GoesOn reference first b new rest
+    {rest : List Bool} → ReachesBySteps reference first b old mid → ReachesBySteps reference old mid new rest
+    → ReachesBySteps reference first b new rest
 goes_further {rest = rest} some more = record {
   front = some.front ++ more.front;
   parts = some.parts ∙ ap (λ c. some.front ++ c) more.parts ∙ sym (append_assoc some.front more.front rest);
@@ -36,21 +37,22 @@ goes_further {rest = rest} some more = record {
 
 more_chosen : (reference : List Colour) (first : Position) (b : List Bool) (before : List Position) (old : Position)
     (mid : List Bool) (after : List Position) (new : Position) (rest : List Bool)
-    → AreChosenSteps reference first b before old mid → AreChosenSteps reference old mid after new rest
-    → AreChosenSteps reference first b (before ++ after) new rest
+    → AreCanonicalSteps reference first b before old mid → AreCanonicalSteps reference old mid after new rest
+    → AreCanonicalSteps reference first b (before ++ after) new rest
 more_chosen reference first b [] old mid after new rest steps more = grind arith
 more_chosen reference first b (next ∷ before) old mid after new rest steps more =
     (steps.0, steps.1, steps.2, more_chosen reference next steps.1 before old mid after new rest steps.3 more)
 
 pub chosen_further : {reference : List Colour} {first : Position} {b : List Bool} {old : Position} {mid : List Bool}
     {new : Position}
-    {rest : List Bool} → GoesOnAsChosen reference first b old mid → GoesOnAsChosen reference old mid new rest
-    → GoesOnAsChosen reference first b new rest
+    {rest : List Bool} → ReachesByCanonicalSteps reference first b old mid
+    → ReachesByCanonicalSteps reference old mid new rest
+    → ReachesByCanonicalSteps reference first b new rest
 chosen_further some more = grind (arith, more_chosen)
 
 chosen_on : (reference : List Colour) (b : List Bool) (old : Position) (mid : List Bool) (positions : List Position)
     (new : Position)
-    (rest : List Bool) → IsChosenSoFar reference b old mid → AreChosenSteps reference old mid positions new rest
+    (rest : List Bool) → IsChosenSoFar reference b old mid → AreCanonicalSteps reference old mid positions new rest
     → IsChosenSoFar reference b new rest
 chosen_on reference b old mid [] new rest so_far more = grind arith
 chosen_on reference b old mid (next ∷ positions) new rest so_far more =
@@ -62,7 +64,7 @@ chosen_on reference b old mid (next ∷ positions) new rest so_far more =
 
 -- steps that T.4 would have chosen, from the row's beginning
 pub chosen_so_far : (reference : List Colour) (b : List Bool) (at : Position) (rest : List Bool)
-    → GoesOnAsChosen reference beginning b at rest → IsChosenSoFar reference b at rest
+    → ReachesByCanonicalSteps reference beginning b at rest → IsChosenSoFar reference b at rest
 chosen_so_far reference b at rest steps =
     chosen_on reference b beginning b steps.positions at rest (chosen_begins reference b beginning refl) steps.steps
 
@@ -75,7 +77,7 @@ leaves_more {b} {mid} {rest} some more =
     (some.0 ++ more.0, some.1 ∙ ap (λ c. some.0 ++ c) more.1 ∙ sym (append_assoc some.0 more.0 rest))
 
 code_leaves : {M : Type 0} {table : List (CodeEntry M)} {b : List Bool} {m : M} {rest : List Bool}
-    → Takes table b m rest → Leaves b rest
+    → Decodes table b m rest → Leaves b rest
 code_leaves taken = (bits_of taken.entry, taken.spelled)
 
 pub step_leaves : (reference : List Colour) (old : Position) (b : List Bool) (new : Position) (rest : List Bool)
@@ -89,19 +91,20 @@ step_leaves reference old b new rest step = leaves_more (code_leaves step.taken)
     by Extension is = absurd is
 
 pub goes_on_leaves : {reference : List Colour} {old : Position} {b : List Bool} {new : Position} {rest : List Bool}
-    → GoesOn reference old b new rest → Leaves b rest
+    → ReachesBySteps reference old b new rest → Leaves b rest
 goes_on_leaves goes = (goes.front, goes.parts)
 
-pub due_leaves : (colour : Colour) (b : List Bool) (due : Due) (rest : List Bool) → IsDue colour b due rest
+pub due_leaves : (colour : Colour) (b : List Bool) (needed : NeedsTable) (rest : List Bool)
+    → IsNeeded colour b needed rest
     → Leaves b rest
 due_leaves colour b Mode rest is = ([], is)
 due_leaves colour b (Runs first) rest is = leaves_more (code_leaves is.1) (runs is.0 first is.2)
   where
-    runs : (middle : List Bool) (first : Option ℕ) → AreRunsDue colour middle first rest → Leaves middle rest
+    runs : (middle : List Bool) (first : Option ℕ) → AreRunsNeeded colour middle first rest → Leaves middle rest
     runs middle None is = ([], is)
     runs middle (Some n) is = run_after is.0
 
 -- the bits from a place on, before which so many stand
-pub rest_there : (source : Source) (place : ℕ) (front rest : List Bool) → source.left ≡ front ++ rest
-    → place ≡ source.place + length front → drop (place - source.place) source.left ≡ rest
-rest_there source place front rest parts is = grind (arith, common_steps)
+pub rest_there : (source : Source) (column : ℕ) (front rest : List Bool) → source.remaining ≡ front ++ rest
+    → column ≡ source.place + length front → drop (column - source.place) source.remaining ≡ rest
+rest_there source column front rest parts is = grind (arith, common_steps)

@@ -12,19 +12,19 @@ pub rest_is : (xs : List ℕ) (n : ℕ) → take (length xs - n) (drop n xs) ≡
 rest_is xs n = ap (λ k. take k (drop n xs)) (sym (length-drop n xs)) ∙ take-length (drop n xs)
 
 -- the places of a row, from its first pel on
-pub row_bounds : (places : List ℕ) (end : ℕ) → 0 < length places → get_or places 0 0 ≡ 0
-    → take (end + 1) places ≡ 0 ∷ take end (drop 1 places)
-row_bounds places end some first = grind arith
+pub row_bounds : (changes : List ℕ) (end : ℕ) → 0 < length changes → get_or changes 0 0 ≡ 0
+    → take (end + 1) changes ≡ 0 ∷ take end (drop 1 changes)
+row_bounds changes end some first = grind arith
 
 pub are_bounds : (ends : List ℕ) → AreAheadOf 0 ends → AreBounds (0 ∷ ends)
 are_bounds ends ahead = record { some = omega arith; ahead = ahead }
 
 -- there is a run for each place but the first
-pub length-runs_between : (places : List ℕ) → length (runs_between places) ≡ length places - 1
-length-runs_between places = grind (arith, length-gaps)
+pub length-runs_between : (changes : List ℕ) → length (runs_between changes) ≡ length changes - 1
+length-runs_between changes = grind (arith, length-gaps)
 
 -- some runs are left out
-pub skip_bounds : (places : List ℕ) (n : ℕ) → n < length places → AreBounds places → AreBounds (drop n places)
+pub skip_bounds : (changes : List ℕ) (n : ℕ) → n < length changes → AreBounds changes → AreBounds (drop n changes)
 skip_bounds [] n within all = absurd (omega arith)
 skip_bounds (from ∷ ends) zero within all = all
 skip_bounds (from ∷ []) (suc n) within all = absurd (omega arith)
@@ -35,8 +35,8 @@ skip_bounds (from ∷ next ∷ ends) (suc n) within all =
           ahead_of_next from next ends all.ahead;
     })
 
-pub skip_runs : (places : List ℕ) (n : ℕ) → n < length places
-    → runs_between (drop n places) ≡ drop n (runs_between places)
+pub skip_runs : (changes : List ℕ) (n : ℕ) → n < length changes
+    → runs_between (drop n changes) ≡ drop n (runs_between changes)
 skip_runs [] n within = absurd (omega arith)
 skip_runs (from ∷ ends) zero within = refl
 skip_runs (from ∷ []) (suc n) within = absurd (omega arith)
@@ -44,7 +44,7 @@ skip_runs (from ∷ next ∷ ends) (suc n) within = skip_runs (next ∷ ends) n 
 
 -- a lane's subtraction, of a place from one that is no less
 pub lane_is : (a b : ℕ) → b ≤ a → a < 65536 → (a + (4294967296 - b)) % 4294967296 ≡ a - b
-lane_is a b right left = omega arith
+lane_is a b right remaining = omega arith
 
 -- the first runs, in lanes
 module _ (sub : ℕ → ℕ → ℕ) (cast : ℕ → ℕ) (is : (a b : ℕ) → b ≤ a → a < 65536 → cast (sub a b) ≡ a - b) where
@@ -54,12 +54,12 @@ module _ (sub : ℕ → ℕ → ℕ) (cast : ℕ → ℕ) (is : (a b : ℕ) → 
   gaps_in_lanes (suc n) from [] within all = absurd (omega arith)
   gaps_in_lanes (suc n) from (next ∷ ends) within all =
       ap (λ run. run ∷ map cast (zip2 sub (take n ends) (take n (next ∷ ends))))
-      (is next from (all.right 0 (omega arith)) (all.left 0 (omega arith)))
+      (is next from (all.right 0 (omega arith)) (all.below 0 (omega arith)))
       ∙ ap (λ runs. (next - from) ∷ runs) (gaps_in_lanes n next ends (omega arith) (ahead_of_next from next ends all))
 
-  pub runs_in_lanes : (n : ℕ) (places : List ℕ) → n < length places → AreBounds places
-      → map cast (zip2 sub (take n (drop 1 places)) (take n places)) ≡ take n (runs_between places)
-  runs_in_lanes n places within all = grind (arith, gaps_in_lanes)
+  pub runs_in_lanes : (n : ℕ) (changes : List ℕ) → n < length changes → AreBounds changes
+      → map cast (zip2 sub (take n (drop 1 changes)) (take n changes)) ≡ take n (runs_between changes)
+  runs_in_lanes n changes within all = grind (arith, gaps_in_lanes)
 
 -- each of them fits a lane
 module _ (P : ℕ → Type 0) (sub : ℕ → ℕ → ℕ) (fits : (a b : ℕ) → b ≤ a → a < 65536 → P (sub a b)) where
@@ -68,11 +68,11 @@ module _ (P : ℕ → Type 0) (sub : ℕ → ℕ → ℕ) (fits : (a b : ℕ) �
   gaps_fit zero from ends within all = tt
   gaps_fit (suc n) from [] within all = absurd (omega arith)
   gaps_fit (suc n) from (next ∷ ends) within all = (
-    fits next from (all.right 0 (omega arith)) (all.left 0 (omega arith)),
+    fits next from (all.right 0 (omega arith)) (all.below 0 (omega arith)),
     gaps_fit n next ends (omega arith)
         (ahead_of_next from next ends all),
   )
 
-  pub runs_fit : (n : ℕ) (places : List ℕ) → n < length places → AreBounds places
-      → Each1 P (zip2 sub (take n (drop 1 places)) (take n places))
-  runs_fit n places within all = grind (arith, gaps_fit)
+  pub runs_fit : (n : ℕ) (changes : List ℕ) → n < length changes → AreBounds changes
+      → Each1 P (zip2 sub (take n (drop 1 changes)) (take n changes))
+  runs_fit n changes within all = grind (arith, gaps_fit)

@@ -36,26 +36,26 @@ fits byte count eight = nat_le count 8 && (nat_eq (length eight) 8 && same (take
 
 -- and for all bytes from one on
 abbrev all_fit : ℕ → List ℕ → List ℕ → Bool
-all_fit byte [] places = true
-all_fit byte (count ∷ counts) places = fits byte count (take 8 places) && all_fit (suc byte) counts (drop 8 places)
+all_fit byte [] changes = true
+all_fit byte (count ∷ counts) changes = fits byte count (take 8 changes) && all_fit (suc byte) counts (drop 8 changes)
 
 table_fits : all_fit 0 COUNTS PLACES ≡ true
 table_fits = refl
 
-fits_at : (byte : ℕ) (counts places : List ℕ) (i : ℕ) → all_fit byte counts places ≡ true → i < length counts
-    → fits (byte + i) (get_or counts i 0) (take 8 (drop (8 * i) places)) ≡ true
-fits_at byte [] places i all within = absurd (omega arith)
-fits_at byte (count ∷ counts) places zero all within =
+fits_at : (byte : ℕ) (counts changes : List ℕ) (i : ℕ) → all_fit byte counts changes ≡ true → i < length counts
+    → fits (byte + i) (get_or counts i 0) (take 8 (drop (8 * i) changes)) ≡ true
+fits_at byte [] changes i all within = absurd (omega arith)
+fits_at byte (count ∷ counts) changes zero all within =
     let here : byte + zero ≡ byte = omega arith in
-    rw here (and_parts (fits byte count (take 8 places)) (all_fit (suc byte) counts (drop 8 places)) all).0
-fits_at byte (count ∷ counts) places (suc i) all within =
+    rw here (and_parts (fits byte count (take 8 changes)) (all_fit (suc byte) counts (drop 8 changes)) all).0
+fits_at byte (count ∷ counts) changes (suc i) all within =
     let next : suc byte + i ≡ byte + suc i = omega arith in
-    let place : 8 + 8 * i ≡ 8 * suc i = omega arith in
-    let rest = (and_parts (fits byte count (take 8 places)) (all_fit (suc byte) counts (drop 8 places)) all).1 in
-    subst (λ n. fits n (get_or counts i 0) (take 8 (drop (8 * suc i) places)) ≡ true) next
+    let column : 8 + 8 * i ≡ 8 * suc i = omega arith in
+    let rest = (and_parts (fits byte count (take 8 changes)) (all_fit (suc byte) counts (drop 8 changes)) all).1 in
+    subst (λ n. fits n (get_or counts i 0) (take 8 (drop (8 * suc i) changes)) ≡ true) next
     (subst (λ ps. fits (suc byte + i) (get_or counts i 0) (take 8 ps) ≡ true)
-    (drop-drop (8 * i) 8 places ∙ ap (λ n. drop n places) place)
-    (fits_at (suc byte) counts (drop 8 places) i rest (omega arith)))
+    (drop-drop (8 * i) 8 changes ∙ ap (λ n. drop n changes) column)
+    (fits_at (suc byte) counts (drop 8 changes) i rest (omega arith)))
 
 -- the eight numbers for a byte
 abbrev pub eight_of : ℕ → List ℕ
@@ -65,7 +65,7 @@ eight_of byte = take 8 (drop (8 * byte) PLACES)
 pub record HasOnes (byte count : ℕ) (eight : List ℕ) : Type 0 where
   pub few : count ≤ 8
   pub eight_are : length eight ≡ 8
-  pub places : take count eight ≡ ones_among 0 7 byte 8
+  pub changes : take count eight ≡ ones_among 0 7 byte 8
 
 pub has_ones : (byte : ℕ) → byte < 256 → HasOnes byte (get_or COUNTS byte 0) (eight_of byte)
 has_ones byte within =
@@ -79,7 +79,7 @@ has_ones byte within =
     record {
       few = leb-true count 8 first.0;
       eight_are = eqb-true (length eight) 8 second.0;
-      places = are_same (take count eight) (ones_among 0 7 byte 8) second.1;
+      changes = are_same (take count eight) (ones_among 0 7 byte 8) second.1;
     }
 
 pub few_ones : (end byte : ℕ) → byte < 256 → end + get_or COUNTS byte 0 ≤ end + 8
@@ -102,22 +102,22 @@ ones_added byte from zero few small = refl
 ones_added byte from (suc k) few small = grind (arith, common_steps, ones_added byte from k (omega arith) small)
 
 -- eight places are put, of which the first are those of the ones
-pub byte_put : (places eight : List ℕ) (end count from byte : ℕ) → end + 8 ≤ length places → from + 8 < 2 ^ 32
+pub byte_put : (changes eight : List ℕ) (end count from byte : ℕ) → end + 8 ≤ length changes → from + 8 < 2 ^ 32
     → HasOnes byte count eight
-    → take (end + count) (put_chunk end places (zip2 added (map widened eight) (replicate 8 from)))
-    ≡ take end places ++ ones_among from 7 byte 8
-byte_put places eight end count from byte room small has =
-    ap (take (end + count)) (put_chunk_is end places lanes (omega (arith, room, long)))
-    ∙ ap (λ n. take (n + count) (take end places ++ (lanes ++ rest)))
-    (sym (length-take-le end places (omega (arith, room))))
-    ∙ take-append-add (take end places) (lanes ++ rest) count
-    ∙ ap (λ xs. take end places ++ xs) (take-append-le count lanes rest (omega (arith, has.few, long)) ∙ shown)
+    → take (end + count) (put_chunk end changes (zip2 added (map widened eight) (replicate 8 from)))
+    ≡ take end changes ++ ones_among from 7 byte 8
+byte_put changes eight end count from byte room small has =
+    ap (take (end + count)) (put_chunk_is end changes lanes (omega (arith, room, long)))
+    ∙ ap (λ n. take (n + count) (take end changes ++ (lanes ++ rest)))
+    (sym (length-take-le end changes (omega (arith, room))))
+    ∙ take-append-add (take end changes) (lanes ++ rest) count
+    ∙ ap (λ xs. take end changes ++ xs) (take-append-le count lanes rest (omega (arith, has.few, long)) ∙ shown)
   where
     lanes : List ℕ
     lanes = zip2 added (map widened eight) (replicate 8 from)
 
     rest : List ℕ
-    rest = drop (length lanes) (drop end places)
+    rest = drop (length lanes) (drop end changes)
 
     lanes_are : lanes ≡ map (λ y. added y from) eight
     lanes_are = ap (λ xs. zip2 added xs (replicate 8 from)) (map_widened eight)
@@ -128,5 +128,5 @@ byte_put places eight end count from byte room small has =
 
     shown : take count lanes ≡ ones_among from 7 byte 8
     shown =
-        ap (take count) lanes_are ∙ take-map (λ y. added y from) count eight ∙ ap (map (λ y. added y from)) has.places
+        ap (take count) lanes_are ∙ take-map (λ y. added y from) count eight ∙ ap (map (λ y. added y from)) has.changes
         ∙ ones_added byte from 8 (omega arith) small

@@ -1,5 +1,5 @@
 -- Packing and unpacking of rows undo one another.
-use Rattle.fax_bits.specs.laws.Codes.{PacksOneWay, AreBitsByPlace}
+use Rattle.fax_bits.specs.laws.Codes.{PacksOneWay, AreBitsByIndex}
 use Rattle.std.proofs.lemmas.Grind.{common_steps}
 use Rattle.std.proofs.Common.{◌≡◌, ℕ, ◌+◌, ◌*◌, List, [], ◌∷◌, map, length, take, get_or, Bool, true, false, refl, ap}
 use Rattle.std.proofs.Common.{arith}
@@ -12,7 +12,7 @@ use Rattle.fax_rows.specs.laws.Packed.{HasBitsOfPels, IsReadBack, IsPackedBack, 
 use Rattle.fax_rows.proofs.PackedLemmas.{get_or-padded, unpacked_at}
 
 -- by the laws of the bits of bytes
-module _ (places : AreBitsByPlace) (one_way : PacksOneWay) where
+module _ (changes : AreBitsByIndex) (one_way : PacksOneWay) where
   sizes : (row : List Colour) → 8 * length (packed_row row) ≡ length row +
       (one_way.padded MsbFirst (map is_black row)).0
   unfolding packed_row

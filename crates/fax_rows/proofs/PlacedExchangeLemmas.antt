@@ -11,37 +11,38 @@ use Rattle.std.proofs.lemmas.List.{ext_get_or, get_or-map, get_or-take, length-m
 use Rattle.fax_bits.specs.declared.Colour.{Colour}
 use Rattle.fax_bits.specs.declared.Colour.TheVariants.{White, Black}
 use Rattle.fax_rows.specs.Rows.{other}
-use Rattle.fax_rows.specs.code.Turns.{turned, pels_by, ArePlaces, IsTurnedFrom}
-use Rattle.fax_rows.proofs.TurnLemmas.{length-pels_by, pel-pels_by}
+use Rattle.fax_rows.specs.code.ChangeLists.{toggled, pels_of_changes, AreChanges, IsToggledFrom}
+use Rattle.fax_rows.proofs.TurnLemmas.{length-pels_of_changes, pel-pels_of_changes}
 use Rattle.fax_rows.proofs.PlacedRowLemmas.{end_within}
 
 -- places turn the opposite colour to the opposite one
-pub turned-other : (c : Colour) (places : List ℕ) (i : ℕ) → turned (other c) places i ≡ other (turned c places i)
-unfolding turned
-turned-other c [] i = refl
-turned-other c (p ∷ places) i = grind (arith, turned-other (other c) places i)
+pub toggled-other : (c : Colour) (changes : List ℕ) (i : ℕ) → toggled (other c) changes i ≡ other (toggled c changes i)
+unfolding toggled
+toggled-other c [] i = refl
+toggled-other c (p ∷ changes) i = grind (arith, toggled-other (other c) changes i)
 
 -- a change at 0 turns all pels
-twice_at_first : (places : List ℕ) (i : ℕ) → turned Black (0 ∷ 0 ∷ places) i ≡ other (turned Black (0 ∷ places) i)
-unfolding turned
-twice_at_first places i = let at : nat_le 0 i ≡ true = le-leb 0 i (omega arith) in rw at (turned-other White places i)
+twice_at_first : (changes : List ℕ) (i : ℕ) → toggled Black (0 ∷ 0 ∷ changes) i ≡ other (toggled Black (0 ∷ changes) i)
+unfolding toggled
+twice_at_first changes i = let at : nat_le 0 i ≡ true = le-leb 0 i (omega arith)
+    in rw at (toggled-other White changes i)
 
 -- a 0 that is put before the first place
-pub put_first : (old new rest : List ℕ) → new ≡ 0 ∷ old → old ≡ 0 ∷ rest → IsTurnedFrom old new 0
+pub put_first : (old new rest : List ℕ) → new ≡ 0 ∷ old → old ≡ 0 ∷ rest → IsToggledFrom old new 0
 put_first old new rest new_is old_is = grind (arith, common_steps, twice_at_first)
 
 -- and one that is taken away
-pub take_first : (old new rest : List ℕ) → old ≡ 0 ∷ new → new ≡ 0 ∷ rest → IsTurnedFrom old new 0
+pub take_first : (old new rest : List ℕ) → old ≡ 0 ∷ new → new ≡ 0 ∷ rest → IsToggledFrom old new 0
 take_first old new rest old_is new_is = record {
-  left = λ i h. absurd (omega arith);
+  left_hand = λ i h. absurd (omega arith);
   right = λ i h.
       let back = put_first new old rest old_is new_is in
-      sym (ap other (back.right i h) ∙ other-other (turned Black new i));
+      sym (ap other (back.right i h) ∙ other-other (toggled Black new i));
 }
 
 -- a list that begins with a 0
-begins_with_0 : (places : List ℕ) → 0 < length places → get_or places 0 0 ≡ 0 → places ≡ 0 ∷ drop 1 places
-begins_with_0 places some first = grind arith
+begins_with_0 : (changes : List ℕ) → 0 < length changes → get_or changes 0 0 ≡ 0 → changes ≡ 0 ∷ drop 1 changes
+begins_with_0 changes some first = grind arith
 
 -- the first of some places, and a 0 before them
 longer_by_0 : (few more : List ℕ) (n : ℕ) → n ≤ length few → n + 1 ≤ length more → get_or more 0 0 ≡ 0
@@ -56,13 +57,13 @@ longer_by_0 few more n within room first each =
     at k h = grind (arith, common_steps)
 
 -- the places of a row that begins black, and those after the first of them
-module _ (old new : List ℕ) (end width : ℕ) (all : ArePlaces old end width) (black : get_or old 1 0 ≡ 0)
+module _ (old new : List ℕ) (end width : ℕ) (all : AreChanges old end width) (black : get_or old 1 0 ≡ 0)
     (len : length new ≡ length old)
     (each : (k : ℕ) → suc k < length old → get_or new k 0 ≡ get_or old (suc k) 0) where
   pub some_change : 1 < end
   some_change = grind (arith, common_steps)
 
-  pub without_first : ArePlaces new (end - 1) width
+  pub without_first : AreChanges new (end - 1) width
   without_first = record {
     some = all.some;
     short = all.short;
@@ -91,7 +92,7 @@ module _ (old new : List ℕ) (end width : ℕ) (all : ArePlaces old end width) 
         each (end - 1 + i) (omega (arith, all.room, end_within all)) ∙ ap (λ m. get_or old m 0) at ∙ all.after i h;
   }
 
-  pub turned_white : IsTurnedFrom (take end old) (take (end - 1) new) 0
+  pub turned_white : IsToggledFrom (take end old) (take (end - 1) new) 0
   turned_white =
       let started = some_change in
       let same : end - 1 + 1 ≡ end = omega arith in
@@ -108,7 +109,7 @@ module _ (old new : List ℕ) (end width : ℕ) (all : ArePlaces old end width) 
       )) first)
 
 -- the places of a row that begins white, and a 0 before them
-module _ (old new : List ℕ) (end width : ℕ) (all : ArePlaces old end width) (white : 0 < get_or old 1 0)
+module _ (old new : List ℕ) (end width : ℕ) (all : AreChanges old end width) (white : 0 < get_or old 1 0)
     (len : length new ≡ length old)
     (first : get_or new 0 0 ≡ 0) (each : (k : ℕ) → suc k < length old → get_or new (suc k) 0 ≡ get_or old k 0) where
   -- each place is at least as large as there are changes before it, and one more
@@ -135,10 +136,10 @@ module _ (old new : List ℕ) (end width : ℕ) (all : ArePlaces old end width) 
   all_below : (i : ℕ) → 0 < i → i < end + 1 → get_or new i 0 < width
   all_below i some h = grind (arith, common_steps)
 
-  pub with_first : ArePlaces new (end + 1) width
+  pub with_first : AreChanges new (end + 1) width
   with_first = grind (arith, few_changes, steps_up, all_below)
 
-  pub turned_black : IsTurnedFrom (take end old) (take (end + 1) new) 0
+  pub turned_black : IsToggledFrom (take end old) (take (end + 1) new) 0
   turned_black =
       let start : get_or (take end old) 0 0 ≡ 0 = get_or-take end old 0 0 all.ascending.started ∙ all.ascending.first in
       put_first (take end old) (take (end + 1) new) (drop 1 (take end old))
@@ -148,12 +149,14 @@ module _ (old new : List ℕ) (end width : ℕ) (all : ArePlaces old end width) 
       start)
 
 -- a row whose places are turned from its first pel on
-pub exchanged : (width : ℕ) (old new : List ℕ) → IsTurnedFrom old new 0
-    → pels_by width new ≡ map other (pels_by width old)
-exchanged width old new turn =
-    ext_get_or White (pels_by width new) (map other (pels_by width old))
-    (length-pels_by width new ∙ sym (length-map (pels_by width old) other ∙ length-pels_by width old))
-    (λ k h. let inside : k < width = omega (arith, length-pels_by width new) in
-    let short : k < length (pels_by width old) = omega (arith, length-pels_by width old) in
-    pel-pels_by width new k inside ∙ turn.right k (omega arith) ∙ ap other (sym (pel-pels_by width old k inside))
-    ∙ sym (get_or-map other (pels_by width old) k White White short))
+pub exchanged : (width : ℕ) (old new : List ℕ) → IsToggledFrom old new 0
+    → pels_of_changes width new ≡ map other (pels_of_changes width old)
+exchanged width old new toggle_change =
+    ext_get_or White (pels_of_changes width new) (map other (pels_of_changes width old))
+    (length-pels_of_changes width new ∙ sym (length-map (pels_of_changes width old) other
+    ∙ length-pels_of_changes width old))
+    (λ k h. let inside : k < width = omega (arith, length-pels_of_changes width new) in
+    let short : k < length (pels_of_changes width old) = omega (arith, length-pels_of_changes width old) in
+    pel-pels_of_changes width new k inside ∙ toggle_change.right k (omega arith)
+    ∙ ap other (sym (pel-pels_of_changes width old k inside))
+    ∙ sym (get_or-map other (pels_of_changes width old) k White White short))

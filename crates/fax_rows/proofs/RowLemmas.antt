@@ -4,7 +4,7 @@ use Rattle.std.proofs.Common.{◌≡◌, ℕ, List, [], ◌∷◌, ◌++◌, rep
 use Rattle.std.proofs.Common.{arith}
 use Rattle.std.proofs.lemmas.List.{append-nil}
 use Rattle.fax_bits.specs.declared.Colour.{Colour}
-use Rattle.fax_rows.specs.Rows.{other, pels_of}
+use Rattle.fax_rows.specs.Rows.{other, pels_of_runs}
 use Rattle.fax_rows.proofs.CodedRunLemmas.{colour_after_runs}
 
 pub colour_after_runs-push : (c : Colour) (runs : List ℕ) (n : ℕ)
@@ -12,7 +12,7 @@ pub colour_after_runs-push : (c : Colour) (runs : List ℕ) (n : ℕ)
 colour_after_runs-push c [] n = refl
 colour_after_runs-push c (m ∷ runs) n = colour_after_runs-push (other c) runs n
 
-pub pels_of-push : (c : Colour) (runs : List ℕ) (n : ℕ)
-    → pels_of c (runs ++ n ∷ []) ≡ pels_of c runs ++ replicate n (colour_after_runs c runs)
-pels_of-push c [] n = append-nil (replicate n c)
-pels_of-push c (m ∷ runs) n = grind (arith, common_steps, pels_of-push (other c) runs n)
+pub pels_of_runs-push : (c : Colour) (runs : List ℕ) (n : ℕ)
+    → pels_of_runs c (runs ++ n ∷ []) ≡ pels_of_runs c runs ++ replicate n (colour_after_runs c runs)
+pels_of_runs-push c [] n = append-nil (replicate n c)
+pels_of_runs-push c (m ∷ runs) n = grind (arith, common_steps, pels_of_runs-push (other c) runs n)

@@ -39,7 +39,7 @@ abbrev EndsAs : Step Runs (List Colour) RowFault → List Colour → List Bool �
 EndsAs step pels rest = step ≡ done pels rest
 
 module _ (width : ℕ) where
-  -- what goes on is a run before the row's end
+  -- what continues is a run before the row's end
   run_is : (at next : Runs) (b rest : List Bool) → row_step width at b ≡ onward next rest
       → (to : ℕ) × (length at.pels ≢ width) × IsRunTo at.colour width (length at.pels) b to rest × (next
       ≡ runs_to at to)
@@ -53,10 +53,10 @@ module _ (width : ℕ) where
       by true there same = absurd (cc (same))
       by false there same =
           let run = step_onward (read_run at.colour width (length at.pels) b) (after_run at) next rest same in
-          let left : run.1 ≡ rest = cc (run.3) in (
+          let remaining : run.1 ≡ rest = cc (run.3) in (
             run.0,
             λ end. absurd (cc (there, same_place (length at.pels) width end)),
-            subst (λ c. IsRunTo at.colour width (length at.pels) b run.0 c) left
+            subst (λ c. IsRunTo at.colour width (length at.pels) b run.0 c) remaining
                 (is_run_to at.colour width (length at.pels) b run.0 run.1 run.2),
             cc (run.3),
           )
@@ -67,7 +67,7 @@ module _ (width : ℕ) where
   end_is at b pels rest is = by (nat_eq (length at.pels) width) refl is
     where
       no_end : (r : Read ℕ RowFault) → EndsAs (step_by (after_run at) r) pels rest → ⊥
-      no_end (read to left) same = cc (same)
+      no_end (read to remaining) same = cc (same)
       no_end (failed fault) same = cc (same)
 
       by : (test : Bool) → nat_eq (length at.pels) width ≡ test
@@ -103,24 +103,26 @@ module _ (width : ℕ) where
   -- of runs, from the last one on
   module _ (R : Runs → List Bool → List Colour → List Bool → Type 0)
       (none : (at : Runs) (b : List Bool) → length at.pels ≡ width → R at b at.pels b)
-      (more : (at : Runs) (to : ℕ) (b left : List Bool) (pels : List Colour) (rest : List Bool) → length at.pels ≢ width
-      → IsRunTo at.colour width (length at.pels) b to left → R (runs_to at to) left pels rest → R at b pels rest) where
-    last_run : (at : Runs) (b : List Bool) (pels : List Colour) (rest : List Bool) → row_step width at b
+      (more : (at : Runs) (to : ℕ) (b remaining : List Bool) (pels : List Colour) (rest : List Bool)
+      → length at.pels ≢ width
+      → IsRunTo at.colour width (length at.pels) b to remaining → R (runs_to at to) remaining pels rest
+      → R at b pels rest) where
+    run_by_table : (at : Runs) (b : List Bool) (pels : List Colour) (rest : List Bool) → row_step width at b
         ≡ done pels rest
         → R at b pels rest
-    last_run at b pels rest is =
+    run_by_table at b pels rest is =
         let end = end_is at b pels rest is in
         subst (λ p. R at b p rest) (sym end.1) (subst (λ c. R at b at.pels c) end.2 (none at b end.0))
 
-    run_before : (at next : Runs) (b left : List Bool) (pels : List Colour) (rest : List Bool)
-        → row_step width at b ≡ onward next left → R next left pels rest → R at b pels rest
-    run_before at next b left pels rest is after =
-        let run = run_is at next b left is in
-        more at run.0 b left pels rest run.1 run.2 (subst (λ n. R n left pels rest) run.3 after)
+    run_before : (at next : Runs) (b remaining : List Bool) (pels : List Colour) (rest : List Bool)
+        → row_step width at b ≡ onward next remaining → R next remaining pels rest → R at b pels rest
+    run_before at next b remaining pels rest is after =
+        let run = run_is at next b remaining is in
+        more at run.0 b remaining pels rest run.1 run.2 (subst (λ n. R n remaining pels rest) run.3 after)
 
     pub runs_rule : (at : Runs) (b : List Bool) (pels : List Colour) (rest : List Bool)
         → read_runs width at b ≡ read pels rest → R at b pels rest
-    runs_rule = holds DataEnds (row_step width) runs_shorten R last_run run_before
+    runs_rule = holds DataEnds (row_step width) runs_shorten R run_by_table run_before
 
 -- of steps, from the first one on
 module _ (reference : List Colour) (P : Position → List Bool → Type 0)
@@ -136,9 +138,11 @@ module _ (reference : List Colour) (P : Position → List Bool → Type 0)
   last_step at b pels rest is p =
       let end = done_is reference at b pels rest is in (at, subst (λ c. P at c) end.2 p, end.0, end.1)
 
-  step_before : (at next : Position) (b left : List Bool) (pels : List Colour) (rest : List Bool)
-      → coding_step reference at b ≡ onward next left → IsReadFrom next left pels rest → IsReadFrom at b pels rest
-  step_before at next b left pels rest is after p = after (kept at b next left (onward_is reference at b next left is)
+  step_before : (at next : Position) (b remaining : List Bool) (pels : List Colour) (rest : List Bool)
+      → coding_step reference at b ≡ onward next remaining → IsReadFrom next remaining pels rest
+      → IsReadFrom at b pels rest
+  step_before at next b remaining pels rest is after p = after (kept at b next remaining (onward_is reference at b next
+      remaining is)
       p)
 
   pub steps_rule : (at : Position) (b : List Bool) (pels : List Colour) (rest : List Bool)
@@ -152,5 +156,6 @@ pub first_step_rule : (reference : List Colour) (P : List Bool → Type 0)
 first_step_rule reference P of_step b pels rest is =
     holds DataEnds (coding_step reference) (shortens reference) (λ at b pels rest. at.a0 ≡ None → P b)
     (λ at b pels rest end none. absurd (let at_end = (done_is reference at b pels rest end).0 in cc (at_end, none)))
-    (λ at next b left pels rest step more none. of_step at b next left (onward_is reference at b next left step))
+    (λ at next b remaining pels rest step more none. of_step at b next remaining (onward_is reference at b next
+    remaining step))
     beginning b pels rest is refl

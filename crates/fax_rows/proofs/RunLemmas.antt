@@ -9,7 +9,7 @@ use Rattle.fax_bits.specs.declared.run_codes.RunCode.TheVariants.{Terminating, M
 use Rattle.fax_bits.specs.Tables.{run_table}
 use Rattle.fax_bits.specs.Written.{run_bits}
 use Rattle.fax_bits.specs.laws.Codes.{ChosenCodesAreWritten}
-use Rattle.fax_bits.specs.Codes.{Takes, Spells, IsRun, bits_of}
+use Rattle.fax_bits.specs.Codes.{Decodes, DecodesAll, IsRun, bits_of}
 
 pub sum-push : (ms : List ℕ) (m : ℕ) → sum (ms ++ m ∷ []) ≡ sum ms + m
 sum-push ms m = grind (arith, common_steps)
@@ -23,7 +23,7 @@ AreLongestMakeUp colour b n rest = (m : ℕ) (after : List Bool) → rest ≡ ru
 -- with a terminating code after them, the make-up codes so far are a run that is written
 abbrev pub AreChosen : Colour → List Bool → ℕ → List Bool → Type 0
 AreChosen colour b n rest =
-    (m : ℕ) (after : List Bool) → Takes (run_table colour) rest (Terminating m) after
+    (m : ℕ) (after : List Bool) → Decodes (run_table colour) rest (Terminating m) after
     → b ≡ run_bits colour (n + m) ++ after
 
 module _ (law : ChosenCodesAreWritten) (colour : Colour) (b : List Bool) where
@@ -35,7 +35,7 @@ module _ (law : ChosenCodesAreWritten) (colour : Colour) (b : List Bool) where
 
   -- after the longest ones any make-up code may be the last
   pub one_chosen : (n m : ℕ) (mid rest : List Bool) → AreLongestMakeUp colour b n mid
-      → Takes (run_table colour) mid (MakeUp m) rest
+      → Decodes (run_table colour) mid (MakeUp m) rest
       → AreChosen colour b (n + m) rest
   one_chosen n m mid rest are first = λ k after last.
       let sum_is : n + (m + k) ≡ n + m + k = omega arith in
@@ -43,16 +43,16 @@ module _ (law : ChosenCodesAreWritten) (colour : Colour) (b : List Bool) where
       (law.long colour mid m k rest after first last))
 
   pub one_longest : (n m : ℕ) (mid rest : List Bool) → AreLongestMakeUp colour b n mid → m ≡ 2560
-      → Takes (run_table colour) mid (MakeUp m) rest → AreLongestMakeUp colour b (n + m) rest
+      → Decodes (run_table colour) mid (MakeUp m) rest → AreLongestMakeUp colour b (n + m) rest
   one_longest n m mid rest are most first = λ k after written.
       let sum_is : n + (2560 + k) ≡ n + m + k = omega (arith, most) in
-      let taken = subst (λ j. Takes (run_table colour) mid (MakeUp j) rest) most first in
+      let taken = subst (λ j. Decodes (run_table colour) mid (MakeUp j) rest) most first in
       subst (λ j. b ≡ run_bits colour j ++ after) sum_is (are (2560 + k) after
       (law.longest colour mid k rest after taken written))
 
 -- codes stand before what is left after them
 pub spells_after : {M : Type 0} (table : List (CodeEntry M)) (b : List Bool) (ms : List M) (rest : List Bool)
-    → Spells table b ms rest → (front : List Bool) × (b ≡ front ++ rest)
+    → DecodesAll table b ms rest → (front : List Bool) × (b ≡ front ++ rest)
 spells_after table b [] rest spelled = ([], spelled)
 spells_after table b (m ∷ ms) rest spelled =
     let more = spells_after table spelled.0 ms rest spelled.2 in

@@ -9,7 +9,7 @@ use Rattle.fax_bits.specs.declared.codes.CodeEntry.{CodeEntry}
 use Rattle.fax_bits.specs.declared.codes.CodeFault.{CodeFault}
 use Rattle.fax_bits.specs.declared.run_codes.RunCode.{RunCode}
 use Rattle.fax_bits.specs.declared.run_codes.RunCode.TheVariants.{Terminating, MakeUp, Extension as RunExtension}
-use Rattle.fax_bits.specs.Codes.{Spells, Takes, IsRun, read_code}
+use Rattle.fax_bits.specs.Codes.{DecodesAll, Decodes, IsRun, read_code}
 use Rattle.fax_bits.specs.Reading.{read, failed, map_fault, Step, onward, done, stopped}
 use Rattle.fax_bits.specs.Tables.{run_table}
 use Rattle.fax_bits.specs.code.TableLaws.{run_table_has_short_codes, run_table_is_prefix_free}
@@ -32,7 +32,7 @@ other_place n m below = grind (arith, nat_tests)
 
 -- a code that is read is taken
 pub code_taken : {M : Type 0} (table : List (CodeEntry M)) (b : List Bool) (meaning : M) (rest : List Bool)
-    → row_code table b ≡ read meaning rest → Takes table b meaning rest
+    → row_code table b ≡ read meaning rest → Decodes table b meaning rest
 code_taken table b meaning rest is =
     read_is_taken b table meaning rest (named_read row_fault (read_code table b) meaning rest is)
 
@@ -51,25 +51,25 @@ GoesOnTo step to rest = step ≡ onward to rest
 abbrev EndsAt : Step ℕ ℕ RowFault → ℕ → List Bool → Type 0
 EndsAt step to rest = step ≡ done to rest
 
--- what goes on is a make-up code within the row
-record GoesOnBy (width from : ℕ) (code : RunCode) (left : List Bool) (to : ℕ) (rest : List Bool) : Type 0 where
+-- what continues is a make-up code within the row
+record GoesOnBy (width from : ℕ) (code : RunCode) (remaining : List Bool) (to : ℕ) (rest : List Bool) : Type 0 where
   n : ℕ
   code_is : code ≡ MakeUp n
   to_is : to ≡ from + n
   inside : to ≤ width
-  rest_is : left ≡ rest
+  rest_is : remaining ≡ rest
 
-goes_on_by : (width from : ℕ) (code : RunCode) (left : List Bool) (to : ℕ) (rest : List Bool)
-    → by_run_code width from code left ≡ onward to rest → GoesOnBy width from code left to rest
-goes_on_by width from (MakeUp n) left to rest is = by (nat_lt width (from + n)) refl is
+goes_on_by : (width from : ℕ) (code : RunCode) (remaining : List Bool) (to : ℕ) (rest : List Bool)
+    → by_run_code width from code remaining ≡ onward to rest → GoesOnBy width from code remaining to rest
+goes_on_by width from (MakeUp n) remaining to rest is = by (nat_lt width (from + n)) refl is
   where
     by : (test : Bool) → nat_lt width (from + n) ≡ test
-        → GoesOnTo (cond test (stopped RunTooLong) (onward (from + n) left)) to rest
-        → GoesOnBy width from (MakeUp n) left to rest
+        → GoesOnTo (cond test (stopped RunTooLong) (onward (from + n) remaining)) to rest
+        → GoesOnBy width from (MakeUp n) remaining to rest
     by true there same = absurd (cc (same))
     by false there same =
         let to_is : to ≡ from + n = cc (same) in
-        let rest_is : left ≡ rest = cc (same) in
+        let rest_is : remaining ≡ rest = cc (same) in
         record {
           n = n;
           code_is = refl;
@@ -77,33 +77,33 @@ goes_on_by width from (MakeUp n) left to rest is = by (nat_lt width (from + n)) 
           inside = omega (arith, to_is, not_after width (from + n) there);
           rest_is = rest_is;
         }
-goes_on_by width from (Terminating n) left to rest is = by (nat_lt width (from + n)) is
+goes_on_by width from (Terminating n) remaining to rest is = by (nat_lt width (from + n)) is
   where
-    by : (test : Bool) → GoesOnTo (cond test (stopped RunTooLong) (done (from + n) left)) to rest
-        → GoesOnBy width from (Terminating n) left to rest
+    by : (test : Bool) → GoesOnTo (cond test (stopped RunTooLong) (done (from + n) remaining)) to rest
+        → GoesOnBy width from (Terminating n) remaining to rest
     by true same = absurd (cc (same))
     by false same = absurd (cc (same))
-goes_on_by width from RunExtension left to rest is = absurd (cc (is))
+goes_on_by width from RunExtension remaining to rest is = absurd (cc (is))
 
 -- and what ends a run is a terminating code within the row
-record EndsBy (width from : ℕ) (code : RunCode) (left : List Bool) (to : ℕ) (rest : List Bool) : Type 0 where
+record EndsBy (width from : ℕ) (code : RunCode) (remaining : List Bool) (to : ℕ) (rest : List Bool) : Type 0 where
   n : ℕ
   code_is : code ≡ Terminating n
   to_is : to ≡ from + n
   inside : to ≤ width
-  rest_is : left ≡ rest
+  rest_is : remaining ≡ rest
 
-ends_by : (width from : ℕ) (code : RunCode) (left : List Bool) (to : ℕ) (rest : List Bool)
-    → by_run_code width from code left ≡ done to rest → EndsBy width from code left to rest
-ends_by width from (Terminating n) left to rest is = by (nat_lt width (from + n)) refl is
+ends_by : (width from : ℕ) (code : RunCode) (remaining : List Bool) (to : ℕ) (rest : List Bool)
+    → by_run_code width from code remaining ≡ done to rest → EndsBy width from code remaining to rest
+ends_by width from (Terminating n) remaining to rest is = by (nat_lt width (from + n)) refl is
   where
     by : (test : Bool) → nat_lt width (from + n) ≡ test
-        → EndsAt (cond test (stopped RunTooLong) (done (from + n) left)) to rest
-        → EndsBy width from (Terminating n) left to rest
+        → EndsAt (cond test (stopped RunTooLong) (done (from + n) remaining)) to rest
+        → EndsBy width from (Terminating n) remaining to rest
     by true there same = absurd (cc (same))
     by false there same =
         let to_is : to ≡ from + n = cc (same) in
-        let rest_is : left ≡ rest = cc (same) in
+        let rest_is : remaining ≡ rest = cc (same) in
         record {
           n = n;
           code_is = refl;
@@ -111,13 +111,13 @@ ends_by width from (Terminating n) left to rest is = by (nat_lt width (from + n)
           inside = omega (arith, to_is, not_after width (from + n) there);
           rest_is = rest_is;
         }
-ends_by width from (MakeUp n) left to rest is = by (nat_lt width (from + n)) is
+ends_by width from (MakeUp n) remaining to rest is = by (nat_lt width (from + n)) is
   where
-    by : (test : Bool) → EndsAt (cond test (stopped RunTooLong) (onward (from + n) left)) to rest
-        → EndsBy width from (MakeUp n) left to rest
+    by : (test : Bool) → EndsAt (cond test (stopped RunTooLong) (onward (from + n) remaining)) to rest
+        → EndsBy width from (MakeUp n) remaining to rest
     by true same = absurd (cc (same))
     by false same = absurd (cc (same))
-ends_by width from RunExtension left to rest is = absurd (cc (is))
+ends_by width from RunExtension remaining to rest is = absurd (cc (is))
 
 -- a run within the width, up to a place
 pub record IsRunTo (colour : Colour) (width from : ℕ) (b : List Bool) (to : ℕ) (rest : List Bool) : Type 0 where
@@ -180,27 +180,31 @@ module _ (colour : Colour) (width : ℕ) where
         run = record {
           make_up = [];
           last = by.n;
-          spelled = (first.1, subst (λ code. Takes (run_table colour) b code first.1) by.code_is taken, by.rest_is);
+          spelled = (first.1, subst (λ code. Decodes (run_table colour) b code first.1) by.code_is taken, by.rest_is);
           length = omega arith;
         };
         ends = by.to_is;
         inside = by.inside;
       }
 
-  code_more : (from next : ℕ) (b left : List Bool) (to : ℕ) (rest : List Bool)
-      → run_step colour width from b ≡ onward next left → IsRunTo colour width next left to rest
+  code_more : (from next : ℕ) (b remaining : List Bool) (to : ℕ) (rest : List Bool)
+      → run_step colour width from b ≡ onward next remaining → IsRunTo colour width next remaining to rest
       → IsRunTo colour width from b to rest
-  code_more from next b left to rest is more =
-      let first = step_onward (row_code (run_table colour) b) (by_run_code width from) next left is in
-      let by = goes_on_by width from first.0 first.1 next left first.3 in
-      let taken = subst (λ c. Takes (run_table colour) b first.0 c) by.rest_is
+  code_more from next b remaining to rest is more =
+      let first = step_onward (row_code (run_table colour) b) (by_run_code width from) next remaining is in
+      let by = goes_on_by width from first.0 first.1 next remaining first.3 in
+      let taken = subst (λ c. Decodes (run_table colour) b first.0 c) by.rest_is
       (code_taken (run_table colour) b first.0 first.1 first.2) in
       record {
         n = by.n + more.n;
         run = record {
           make_up = by.n ∷ more.run.make_up;
           last = more.run.last;
-          spelled = (left, subst (λ code. Takes (run_table colour) b code left) by.code_is taken, more.run.spelled);
+          spelled = (
+            remaining,
+            subst (λ code. Decodes (run_table colour) b code remaining) by.code_is taken,
+            more.run.spelled,
+          );
           length = omega (arith, more.run.length, sum-cons by.n more.run.make_up);
         };
         ends = omega (arith, more.ends, by.to_is);
@@ -214,10 +218,11 @@ module _ (colour : Colour) (width : ℕ) where
 
 -- codes of a run are read
 spelled_run : (colour : Colour) (width from to : ℕ) (b : List Bool) (make_up : List ℕ) (last : ℕ) (rest : List Bool)
-    → Spells (run_table colour) b (map MakeUp make_up ++ Terminating last ∷ []) rest → to ≡ from + (sum make_up + last)
+    → DecodesAll (run_table colour) b (map MakeUp make_up ++ Terminating last ∷ []) rest → to
+    ≡ from + (sum make_up + last)
     → to ≤ width → (read_run colour width from b ≡ read to rest) × (length rest < length b)
 spelled_run colour width from to b [] last rest spelled at inside =
-    let taken = subst (λ left. Takes (run_table colour) b (Terminating last) left) spelled.2 spelled.1 in (
+    let taken = subst (λ remaining. Decodes (run_table colour) b (Terminating last) remaining) spelled.2 spelled.1 in (
       ends colour width from to last b rest
           (taken_is_read b (run_table colour) (run_table_is_prefix_free colour) (Terminating last) rest taken)
           (omega (arith, at)) inside,

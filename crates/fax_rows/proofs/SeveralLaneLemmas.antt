@@ -62,19 +62,20 @@ pub splat_at : (n i : ℕ) → i < 4 → get_or (n ∷ n ∷ n ∷ n ∷ []) i 0
 splat_at n i h = grind arith
 
 abbrev pub raised_lanes : List ℕ → List ℕ → ℕ → List ℕ
-raised_lanes others raises b = zip2 added (take 4 (drop b others)) (map widened raises)
+raised_lanes others biased_offsets b = zip2 added (take 4 (drop b others)) (map widened biased_offsets)
 
 abbrev pub splat_lanes : List ℕ → ℕ → ℕ → List ℕ
 splat_lanes others b n = zip2 added (take 4 (drop b others)) (n ∷ n ∷ n ∷ n ∷ [])
 
-module _ (others raises : List ℕ) (b count from : ℕ) (some : 0 < b) (room : b + 5 ≤ length others)
-    (small : (i : ℕ) → i < 6 → get_or others (b - 1 + i) 0 < 2 ^ 16) (near : (i : ℕ) → i < 4 → get_or raises i 0 < 7)
-    (few : count ≤ 4) (long : length raises ≡ 4) where
-  wide : length (map widened raises) ≡ 4
-  wide = length-map raises widened ∙ long
+module _ (others biased_offsets : List ℕ) (b count from : ℕ) (some : 0 < b) (room : b + 5 ≤ length others)
+    (small : (i : ℕ) → i < 6 → get_or others (b - 1 + i) 0 < 2 ^ 16) (near : (i : ℕ) → i < 4
+    → get_or biased_offsets i 0 < 7)
+    (few : count ≤ 4) (long : length biased_offsets ≡ 4) where
+  wide : length (map widened biased_offsets) ≡ 4
+  wide = length-map biased_offsets widened ∙ long
 
-  pub length-raised_lanes : length (raised_lanes others raises b) ≡ 4
-  length-raised_lanes = length-raised added others (map widened raises) b (omega (arith, room)) wide
+  pub length-raised_lanes : length (raised_lanes others biased_offsets b) ≡ 4
+  length-raised_lanes = length-raised added others (map widened biased_offsets) b (omega (arith, room)) wide
 
   pub length-left_lanes : length (splat_lanes others (b - 1) 2) ≡ 4
   length-left_lanes = length-raised added others (2 ∷ 2 ∷ 2 ∷ 2 ∷ []) (b - 1) (omega (arith, room)) refl
@@ -88,14 +89,15 @@ module _ (others raises : List ℕ) (b count from : ℕ) (some : 0 < b) (room : 
   limit_after : (i : ℕ) → i < 4 → get_or others (b + 1 + i) 0 < 2 ^ 16
   limit_after i h = grind arith
 
-  raised_of : (i : ℕ) → i < 4 → get_or (raised_lanes others raises b) i 0 ≡ get_or others (b + i) 0 + get_or raises i 0
+  raised_of : (i : ℕ) → i < 4 → get_or (raised_lanes others biased_offsets b) i 0
+      ≡ get_or others (b + i) 0 + get_or biased_offsets i 0
   raised_of i h =
-      raised_at added others (map widened raises) b i (omega (arith, room)) wide h
-      ∙ ap (added (get_or others (b + i) 0)) (get_or-map widened raises i 0 0 (omega (arith, h, long)))
-      ∙ added_is (get_or others (b + i) 0) (get_or raises i 0) (omega (arith, limit_at i h, near i h))
+      raised_at added others (map widened biased_offsets) b i (omega (arith, room)) wide h
+      ∙ ap (added (get_or others (b + i) 0)) (get_or-map widened biased_offsets i 0 0 (omega (arith, h, long)))
+      ∙ added_is (get_or others (b + i) 0) (get_or biased_offsets i 0) (omega (arith, limit_at i h, near i h))
 
-  raised_is : (i : ℕ) → i < count → get_or (raised_lanes others raises b) i 0
-      ≡ get_or others (b + i) 0 + get_or raises i 0
+  raised_is : (i : ℕ) → i < count → get_or (raised_lanes others biased_offsets b) i 0
+      ≡ get_or others (b + i) 0 + get_or biased_offsets i 0
   raised_is i h = raised_of i (omega (arith, h, few))
 
   splat_is : (c n i : ℕ) → c + 4 ≤ length others → n < 8 → i < 4 → get_or others (c + i) 0 < 2 ^ 16
@@ -103,7 +105,7 @@ module _ (others raises : List ℕ) (b count from : ℕ) (some : 0 < b) (room : 
   splat_is c n i within less h limit = search (rules, raised_at, splat_at)
 
   -- none of the lanes has its highest bit
-  pub raised_four : AreFour (raised_lanes others raises b)
+  pub raised_four : AreFour (raised_lanes others biased_offsets b)
   raised_four = grind (arith, length-raised_lanes, raised_of)
 
   pub left_four : AreFour (splat_lanes others (b - 1) 2)
@@ -112,33 +114,35 @@ module _ (others raises : List ℕ) (b count from : ℕ) (some : 0 < b) (room : 
   pub right_four : AreFour (splat_lanes others (b + 1) 3)
   right_four = search (rules, length-right_lanes, splat_is, limit_after)
 
-  pub before_four : from < 2 ^ 31 → AreFour (before (raised_lanes others raises b) from)
+  pub before_four : from < 2 ^ 31 → AreFour (before (raised_lanes others biased_offsets b) from)
   before_four near_from = record {
     length = refl;
     small = by;
   }
     where
-      by : (i : ℕ) → i < 4 → get_or (before (raised_lanes others raises b) from) i 0 < 2 ^ 31
-      by zero h = omega (arith, first_before (raised_lanes others raises b) from length-raised_lanes, near_from)
+      by : (i : ℕ) → i < 4 → get_or (before (raised_lanes others biased_offsets b) from) i 0 < 2 ^ 31
+      by zero h = omega (arith, first_before (raised_lanes others biased_offsets b) from length-raised_lanes, near_from)
       by (suc i) h = grind (arith, common_steps, raised_of, limit_at)
 
   module _ (left_set : (i : ℕ) → i < count → bit_at (mask_l (zip2 ltb (splat_lanes others (b - 1) 2)
-      (raised_lanes others raises b))) i ≡ 1)
-      (right_set : (i : ℕ) → i < count → bit_at (mask_l (zip2 ltb (raised_lanes others raises b)
+      (raised_lanes others biased_offsets b))) i ≡ 1)
+      (right_set : (i : ℕ) → i < count → bit_at (mask_l (zip2 ltb (raised_lanes others biased_offsets b)
       (splat_lanes others (b + 1) 3))) i ≡ 1)
       (before_set : (i : ℕ) → i < count
-      → bit_at (mask_l (zip2 ltb (before (raised_lanes others raises b) from) (raised_lanes others raises b))) i ≡ 1)
+      → bit_at (mask_l (zip2 ltb (before (raised_lanes others biased_offsets b) from) (raised_lanes others
+      biased_offsets b))) i ≡ 1)
     where
       abbrev pub lanes : List ℕ
-      lanes = zip2 less (raised_lanes others raises b) (3 ∷ 3 ∷ 3 ∷ 3 ∷ [])
+      lanes = zip2 less (raised_lanes others biased_offsets b) (3 ∷ 3 ∷ 3 ∷ 3 ∷ [])
 
-      left_of : (i : ℕ) → i < count → get_or others (b - 1 + i) 0 + 2 < get_or (raised_lanes others raises b) i 0
+      left_of : (i : ℕ) → i < count → get_or others (b - 1 + i) 0 + 2 < get_or (raised_lanes others biased_offsets b) i
+          0
       left_of i h = grind (arith, splat_is, lane_less, length-left_lanes, length-raised_lanes)
 
-      pub lane_is : (i : ℕ) → i < count → get_or lanes i 0 + 3 ≡ get_or (raised_lanes others raises b) i 0
+      pub lane_is : (i : ℕ) → i < count → get_or lanes i 0 + 3 ≡ get_or (raised_lanes others biased_offsets b) i 0
       lane_is i h = grind (arith, left_of)
 
-      pub lane_raised : (i : ℕ) → i < count → get_or lanes i 0 + 3 ≡ get_or others (b + i) 0 + get_or raises i 0
+      pub lane_raised : (i : ℕ) → i < count → get_or lanes i 0 + 3 ≡ get_or others (b + i) 0 + get_or biased_offsets i 0
       lane_raised i h = lane_is i h ∙ raised_is i h
 
       pub lane_left : (i : ℕ) → i < count → get_or others (b - 1 + i) 0 ≤ get_or lanes i 0
@@ -152,18 +156,19 @@ module _ (others raises : List ℕ) (b count from : ℕ) (some : 0 < b) (room : 
             arith,
             lane_is i h,
             splat_is (b + 1) 3 i (omega (arith, room)) (omega arith) (omega (arith, h, few)) limit,
-            lane_less (raised_lanes others raises b) (splat_lanes others (b + 1) 3) i
+            lane_less (raised_lanes others biased_offsets b) (splat_lanes others (b + 1) 3) i
                 (omega (arith, length-raised_lanes, h, few))
                 (omega (arith, length-right_lanes, h, few)) (right_set i h),
           )
 
-      length-before : length (before (raised_lanes others raises b) from) ≡ 4
+      length-before : length (before (raised_lanes others biased_offsets b) from) ≡ 4
       length-before = refl
 
       before_of : (i : ℕ) → i < count
-          → get_or (before (raised_lanes others raises b) from) i 0 < get_or (raised_lanes others raises b) i 0
+          → get_or (before (raised_lanes others biased_offsets b) from) i 0 < get_or (raised_lanes others biased_offsets
+          b) i 0
       before_of i h =
-          lane_less (before (raised_lanes others raises b) from) (raised_lanes others raises b) i
+          lane_less (before (raised_lanes others biased_offsets b) from) (raised_lanes others biased_offsets b) i
           (omega (arith, length-before, h, few))
           (omega (arith, length-raised_lanes, h, few)) (before_set i h)
 
@@ -172,7 +177,7 @@ module _ (others raises : List ℕ) (b count from : ℕ) (some : 0 < b) (room : 
         arith,
         lane_is 0 h,
         before_of 0 h,
-        first_before (raised_lanes others raises b) from
+        first_before (raised_lanes others biased_offsets b) from
             length-raised_lanes,
       )
 

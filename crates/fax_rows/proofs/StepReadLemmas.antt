@@ -11,7 +11,7 @@ use Rattle.fax_bits.specs.declared.mode_codes.ModeCode.{ModeCode}
 use Rattle.fax_bits.specs.declared.mode_codes.ModeCode.TheVariants.{Pass, Horizontal, Vertical}
 use Rattle.fax_bits.specs.declared.mode_codes.ModeCode.TheVariants.{Extension as ModeExtension}
 use Rattle.fax_bits.specs.Tables.{modes}
-use Rattle.fax_bits.specs.Codes.{Takes, IsRun}
+use Rattle.fax_bits.specs.Codes.{Decodes, IsRun}
 use Rattle.fax_bits.specs.Reading.{Read, read, failed, map_fault, Step, onward, done, stopped, step_by}
 use Rattle.fax_bits.specs.code.TableLaws.{modes_has_short_codes, modes_is_prefix_free}
 use Rattle.fax_bits.proofs.CodeLemmas.{taken_is_read}
@@ -89,7 +89,7 @@ is_ended_of reference None is = cc
 is_ended_of reference (Some a) is = grind (arith, nat_tests)
 
 -- a mode that is taken is read
-mode_code : (b : List Bool) (mode : ModeCode) (rest : List Bool) → Takes modes b mode rest
+mode_code : (b : List Bool) (mode : ModeCode) (rest : List Bool) → Decodes modes b mode rest
     → row_code modes b ≡ read mode rest
 mode_code b mode rest taken = ap (map_fault row_fault) (taken_is_read b modes modes_is_prefix_free mode rest taken)
 
@@ -99,8 +99,8 @@ mode_of : (reference : List Colour) (old : Position) (mode : ModeCode) (b : List
 mode_of reference old Pass b new rest step = cc (step.0, step.1)
 mode_of reference old (Vertical d) b new rest step =
     let in_row = in_row_test reference old d step.0.in_row in
-    let place : nat_abs (a1_at reference old d) ≡ step.0.a1 = ap nat_abs (sym step.0.a1_is) in
-    vertical_read reference old (a1_at reference old d) b in_row ∙ cc (place, step.0.new_is, step.1)
+    let column : nat_abs (a1_at reference old d) ≡ step.0.a1 = ap nat_abs (sym step.0.a1_is) in
+    vertical_read reference old (a1_at reference old d) b in_row ∙ cc (column, step.0.new_is, step.1)
 mode_of reference old Horizontal b new rest step =
     let a1 = first_pel old + step.first in
     goes _ (run_read (length reference) (first_pel old) step.first step.first_run (omega (arith, step.within))).0
@@ -178,14 +178,14 @@ mode_is reference at Horizontal b new rest is =
     let second = bind_read (read_run (other at.colour) (length reference) first.0 first.1) _ _ _ first.3 in
     let run = is_run_to at.colour (length reference) (first_pel at) b first.0 first.1 first.2 in
     let another = is_run_to (other at.colour) (length reference) first.0 first.1 second.0 second.1 second.2 in
-    let left : second.1 ≡ rest = cc (second.3) in
+    let remaining : second.1 ≡ rest = cc (second.3) in
     let there : coloured_twice at first.0 second.0 ≡ new = cc (second.3) in
     record {
       first = run.n;
       second = another.n;
       middle = first.1;
       first_run = run.run;
-      second_run = subst (λ c. IsRun (other at.colour) first.1 another.n c) left another.run;
+      second_run = subst (λ c. IsRun (other at.colour) first.1 another.n c) remaining another.run;
       within = omega (arith, run.ends, another.ends, another.inside);
       new_is = sym there ∙ twice_is at first.0 second.0 run.n another.n run.ends another.ends;
     }
@@ -217,7 +217,7 @@ GoesOnTo step new rest = step ≡ onward new rest
 abbrev EndsAs : Step Position (List Colour) RowFault → List Colour → List Bool → Type 0
 EndsAs step pels rest = step ≡ done pels rest
 
--- what goes on is a step before the row's end
+-- what continues is a step before the row's end
 pub onward_is : (reference : List Colour) (at : Position) (b : List Bool) (new : Position) (rest : List Bool)
     → coding_step reference at b ≡ onward new rest → IsStep reference at b new rest
 onward_is reference at b new rest is = by (is_ended reference at.a0) is
@@ -237,7 +237,7 @@ pub done_is : (reference : List Colour) (at : Position) (b : List Bool) (pels : 
 done_is reference at b pels rest is = by (is_ended reference at.a0) refl is
   where
     no_end : (r : Read Position RowFault) → EndsAs (step_by onward r) pels rest → ⊥
-    no_end (read new left) same = cc (same)
+    no_end (read new remaining) same = cc (same)
     no_end (failed fault) same = cc (same)
 
     by : (test : Bool) → is_ended reference at.a0 ≡ test

@@ -12,14 +12,14 @@ use Rattle.std.proofs.lemmas.Nat.Bits.{bit_at-lt, bit_at-zero, bit_at_xor, bit_a
 use Rattle.std.proofs.lemmas.Nat.Bits.{bit_at_cat_high, bit_at_lowest}
 use Rattle.fax_bits.specs.declared.FillOrder.TheVariants.{MsbFirst}
 use Rattle.fax_bits.specs.Bits.{bits}
-use Rattle.fax_bits.specs.laws.Codes.{AreBitsByPlace}
+use Rattle.fax_bits.specs.laws.Codes.{AreBitsByIndex}
 use Rattle.fax_rows.specs.code.PackedWord.{word_bit}
-use Rattle.fax_rows.specs.code.Turns.{IsAscending}
+use Rattle.fax_rows.specs.code.ChangeLists.{IsAscending}
 use Rattle.fax_rows.proofs.PackedWordLemmas.{be_byte, byte_bit}
 use Rattle.fax_rows.proofs.PlacedReadLemmas.{places_within}
 
 -- the bits of a word are those of its bytes
-pub bits_of_word : (law : AreBitsByPlace) (bytes : List ℕ) (at word : ℕ) → at + 8 ≤ length bytes
+pub bits_of_word : (law : AreBitsByIndex) (bytes : List ℕ) (at word : ℕ) → at + 8 ≤ length bytes
     → ((i : ℕ) → get_or bytes i 0 < 256)
     → word ≡ from_be_bytes w64 (take 8 (drop at bytes)) → (i : ℕ) → i < 64
     → word_bit word i ≡ get_or (bits MsbFirst bytes) (8 * at + i) false
@@ -28,7 +28,7 @@ bits_of_word law bytes at word room fit is i inside =
     let r = i % 8 in
     let whole : 8 * q + r ≡ i = omega arith in
     let byte : (8 * at + i) / 8 ≡ at + q = omega arith in
-    let place : (8 * at + i) % 8 ≡ r = omega arith in
+    let column : (8 * at + i) % 8 ≡ r = omega arith in
     let few : q < 8 = omega arith in
     ap (λ k. nat_eq (bit_at word (63 - k)) 1) (sym whole)
     ∙ ap (λ b. nat_eq b 1)
@@ -36,7 +36,7 @@ bits_of_word law bytes at word room fit is i inside =
     (sym (be_byte word q few) ∙ byte_there q few))
     ∙ sym (law.of_bytes MsbFirst bytes (8 * at + i) (omega arith)
     ∙ ap (λ k. nat_eq (bit_at (get_or bytes k 0) (7 - (8 * at + i) % 8)) 1) byte
-    ∙ ap (λ k. nat_eq (bit_at (get_or bytes (at + q) 0) (7 - k)) 1) place)
+    ∙ ap (λ k. nat_eq (bit_at (get_or bytes (at + q) 0) (7 - k)) 1) column)
   where
     eight : List ℕ
     eight = take 8 (drop at bytes)
@@ -116,16 +116,16 @@ pub equal_bits : (a b : Bool) → turns_bit a b ≡ false → a ≡ b
 equal_bits a b h = grind arith
 
 -- the places left of a pel are no more than the pels before it, and two
-pub room_after : (places : List ℕ) (end from : ℕ) → IsAscending places end
-    → (1 < end → get_or places (end - 1) 0 < from) → end ≤ from + 2
-room_after places end from up last =
+pub room_after : (changes : List ℕ) (end from : ℕ) → IsAscending changes end
+    → (1 < end → get_or changes (end - 1) 0 < from) → end ≤ from + 2
+room_after changes end from up last =
     elim (cases_lt 1 end) [
-      | inl more ↦ places_within places end from up (omega (arith, last more))
+      | inl more ↦ places_within changes end from up (omega (arith, last more))
       | inr one ↦ omega arith
     ]
 
 -- the last place is below a number where it is one of the changes, and 0 else
-pub last_below : (places : List ℕ) (end n : ℕ) → IsAscending places end → (1 < end → get_or places (end - 1) 0 < n)
+pub last_below : (changes : List ℕ) (end n : ℕ) → IsAscending changes end → (1 < end → get_or changes (end - 1) 0 < n)
     → 0 < n
-    → get_or places (end - 1) 0 < n
-last_below places end n up last some = grind (arith, common_steps)
+    → get_or changes (end - 1) 0 < n
+last_below changes end n up last some = grind (arith, common_steps)

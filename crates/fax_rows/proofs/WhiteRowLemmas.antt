@@ -16,12 +16,12 @@ use Rattle.fax_bits.specs.declared.mode_codes.ModeCode.TheVariants.{Vertical}
 use Rattle.fax_rows.specs.Coded.{packed_len, packed_row, is_black, alternating_bits, one_dimensional_bits}
 use Rattle.fax_rows.specs.Coded.{two_dimensional_bits}
 use Rattle.fax_rows.specs.Rows.{pel, is_changing, next_change, b1, runs_after}
-use Rattle.fax_rows.specs.code.Turns.{ArePlaces, row_of}
+use Rattle.fax_rows.specs.code.ChangeLists.{AreChanges, row_of}
 use Rattle.fax_rows.proofs.ChangeLemmas.{first_place_is, next_change_is}
 use Rattle.fax_rows.proofs.PlacedRowLemmas.{all_white, width_is}
 use Rattle.fax_rows.proofs.TurnLemmas.{changing_at}
 use Rattle.fax_rows.proofs.WrittenLemmas.{step_bits-end, step_bits-more}
-use Rattle.fax_rows.specs.code.Choice.{places, chosen_mode}
+use Rattle.fax_rows.specs.code.Choice.{changes, canonical_mode}
 
 -- a white row of this width
 abbrev white : ℕ → List Colour
@@ -35,21 +35,21 @@ white_pel width i inside = get_or-replicate width i White White inside
 pub none_changes : (width i : ℕ) → i < width → is_changing (white width) i ≡ false
 none_changes width i inside = grind (arith, white_pel)
 
-module _ {places : List ℕ} {end width : ℕ} (all : ArePlaces places end width) where
+module _ {changes : List ℕ} {end width : ℕ} (all : AreChanges changes end width) where
   -- a row of more places than the first changes at the second
-  more_places : 1 < end → row_of places end width ≡ white width → ⊥
+  more_places : 1 < end → row_of changes end width ≡ white width → ⊥
   more_places more is =
       let inside = all.below 1 (omega arith) more in
-      let changes = changing_at all.ascending width (get_or places 1 0) 1 (omega arith) more refl inside in
-      let none = none_changes width (get_or places 1 0) inside in
+      let changing = changing_at all.ascending width (get_or changes 1 0) 1 (omega arith) more refl inside in
+      let none = none_changes width (get_or changes 1 0) inside in
       cc
 
   -- a row is white just where it has one place
-  one_place : {row : List Colour} → row_of places end width ≡ row → row ≡ replicate (length row) White
+  one_place : {row : List Colour} → row_of changes end width ≡ row → row ≡ replicate (length row) White
       → IsTrue (nat_eq end 1)
   one_place is white_is = grind (arith, width_is, more_places)
 
-  pub is_white_row : {row : List Colour} → row_of places end width ≡ row
+  pub is_white_row : {row : List Colour} → row_of changes end width ≡ row
       → IsTrue (nat_eq end 1) ↔ (row ≡ replicate (length row) White)
   is_white_row is = grind (arith, all_white, one_place)
 
@@ -74,7 +74,7 @@ unfolding b1
 no_b1 width from colour = grind (arith, common_steps, first_place_is)
 
 -- so that a1 is under b1, and the step ends the row
-white_mode : (width : ℕ) → chosen_mode (places (white width) (white width) None) ≡ Vertical (pos 0)
+white_mode : (width : ℕ) → canonical_mode (changes (white width) (white width) None) ≡ Vertical (pos 0)
 white_mode width = grind (arith, no_change, no_b1)
 
 -- over a white row it is written as a single 1

@@ -55,7 +55,7 @@ pub rows_have_their_width : RowsHaveTheirWidth
 rows_have_their_width = record {
   one_dimensional = λ width b row rest is.
       runs_rule width (λ at b pels rest. length pels ≡ width) (λ at b end. end)
-      (λ at to b left pels rest unfinished run more. more) (record { pels = []; colour = White }) b row rest is;
+      (λ at to b remaining pels rest unfinished run more. more) (record { pels = []; colour = White }) b row rest is;
   two_dimensional = λ reference b row rest is.
       let whole = steps_rule reference (λ at b. IsPainted reference at)
       (λ at b new rest step painted. step_paints step.mode reference at step.after new rest painted step.step)

@@ -9,16 +9,16 @@ use Rattle.std.proofs.lemmas.List.{replicate-append-replicate}
 use Rattle.fax_bits.specs.declared.Colour.{Colour}
 use Rattle.fax_bits.specs.declared.Colour.TheVariants.{White, Black}
 use Rattle.fax_bits.specs.declared.mode_codes.ModeCode.{ModeCode}
-use Rattle.fax_bits.specs.Codes.{Takes}
+use Rattle.fax_bits.specs.Codes.{Decodes}
 use Rattle.fax_bits.specs.laws.Codes.{RunBitsAreRead, ModeBitsAreRead}
 use Rattle.fax_bits.specs.Written.{mode_bits}
 use Rattle.fax_bits.specs.Tables.{modes}
-use Rattle.fax_rows.specs.Rows.{other, pels_of, runs_after, runs_of, Position}
+use Rattle.fax_rows.specs.Rows.{other, pels_of_runs, runs_after, runs_of, Position}
 use Rattle.fax_rows.specs.laws.Rows.{HasWidth}
 use Rattle.fax_rows.specs.Coded.{step_bits, two_dimensional_bits, alternating_bits}
-use Rattle.fax_rows.specs.code.Choice.{places, colour_of, chosen_mode, run_pair_bits, next_a0}
+use Rattle.fax_rows.specs.code.Choice.{changes, colour_of, canonical_mode, run_pair_bits, next_a0}
 use Rattle.fax_rows.proofs.ChangeLemmas.{first_of}
-use Rattle.fax_rows.proofs.RowLaws.{length-pels_of}
+use Rattle.fax_rows.proofs.RowLaws.{length-pels_of_runs}
 use Rattle.std.proofs.Common.{◌-◌, append-nil}
 use Rattle.fax_bits.specs.Written.{run_bits}
 use Rattle.fax_rows.specs.laws.Rows.{OneDimensionalBitsAreRead}
@@ -45,9 +45,11 @@ step_bits-end (suc limit) reference row a0 done = grind (arith, common_steps)
 -- elsewhere a step is written, and those after it
 pub step_bits-more : (limit : ℕ) (reference row : List Colour) (a0 : Option ℕ) → first_of a0 < length row
     → step_bits (suc limit) reference row a0
-    ≡ mode_bits (chosen_mode (places reference row a0)) ++ run_pair_bits (chosen_mode (places reference row a0)) row a0
-    (places reference row a0)
-    ++ step_bits limit reference row (Some (next_a0 (chosen_mode (places reference row a0)) (places reference row a0)))
+    ≡ mode_bits (canonical_mode (changes reference row a0)) ++ run_pair_bits (canonical_mode (changes reference row a0))
+    row a0
+    (changes reference row a0)
+    ++ step_bits limit reference row (Some (next_a0 (canonical_mode (changes reference row a0)) (changes reference row
+    a0)))
 unfolding step_bits
 step_bits-more limit reference row a0 unfinished = grind (arith, common_steps)
 
@@ -74,14 +76,14 @@ module _ (runs_read : RunBitsAreRead) (modes_taken : ModeBitsAreRead) (reference
 
   -- the place and the mode of the step from a0
   abbrev mode_at : Option ℕ → ModeCode
-  mode_at a0 = chosen_mode (places reference row a0)
+  mode_at a0 = canonical_mode (changes reference row a0)
 
   abbrev next_at : Option ℕ → ℕ
-  next_at a0 = next_a0 (mode_at a0) (places reference row a0)
+  next_at a0 = next_a0 (mode_at a0) (changes reference row a0)
 
   bits_of_step : (limit : ℕ) (a0 : Option ℕ) (more : List Bool) → first_of a0 < length row
       → step_bits (suc limit) reference row a0 ++ more
-      ≡ mode_bits (mode_at a0) ++ (run_pair_bits (mode_at a0) row a0 (places reference row a0)
+      ≡ mode_bits (mode_at a0) ++ (run_pair_bits (mode_at a0) row a0 (changes reference row a0)
       ++ (step_bits limit reference row
       (Some (next_at a0)) ++ more))
   bits_of_step limit a0 more unfinished = grind (arith, common_steps, step_bits-more, append_assoc)
@@ -99,10 +101,10 @@ module _ (runs_read : RunBitsAreRead) (modes_taken : ModeBitsAreRead) (reference
       (λ same. not_at_width a0 (length row) unfinished (same ∙ ap (λ n. Some n) same_width))
       (record {
         mode = mode_at a0;
-        after = run_pair_bits (mode_at a0) row a0 (places reference row a0) ++ rest;
-        taken = subst (λ b. Takes modes b (mode_at a0) (run_pair_bits (mode_at a0) row a0 (places reference row a0)
+        after = run_pair_bits (mode_at a0) row a0 (changes reference row a0) ++ rest;
+        taken = subst (λ b. Decodes modes b (mode_at a0) (run_pair_bits (mode_at a0) row a0 (changes reference row a0)
             ++ rest))
-            (ap (λ b. mode_bits (mode_at a0) ++ (run_pair_bits (mode_at a0) row a0 (places reference row a0) ++ b))
+            (ap (λ b. mode_bits (mode_at a0) ++ (run_pair_bits (mode_at a0) row a0 (changes reference row a0) ++ b))
             rest_is
             ∙ sym (bits_of_step limit a0 more unfinished))
             (modes_taken (mode_at a0) _ step.written);
@@ -140,16 +142,18 @@ replicate_more n colour pels = rw (← replicate-append-replicate n 1 colour)
     (append_assoc (replicate n colour) (colour ∷ []) pels)
 
 -- the longest runs make up the pels
-pub pels_of-runs_after : (colour : Colour) (n : ℕ) (pels : List Colour)
-    → pels_of colour (runs_after colour n pels) ≡ replicate n colour ++ pels
+pub pels_of_runs-runs_after : (colour : Colour) (n : ℕ) (pels : List Colour)
+    → pels_of_runs colour (runs_after colour n pels) ≡ replicate n colour ++ pels
 unfolding runs_after
-pels_of-runs_after colour n [] = refl
-pels_of-runs_after White n (White ∷ pels) =
-    pels_of-runs_after White (n + 1) pels ∙ replicate_more n White pels
-pels_of-runs_after Black n (Black ∷ pels) =
-    pels_of-runs_after Black (n + 1) pels ∙ replicate_more n Black pels
-pels_of-runs_after White n (Black ∷ pels) = ap (λ more. replicate n White ++ more) (pels_of-runs_after Black 1 pels)
-pels_of-runs_after Black n (White ∷ pels) = ap (λ more. replicate n Black ++ more) (pels_of-runs_after White 1 pels)
+pels_of_runs-runs_after colour n [] = refl
+pels_of_runs-runs_after White n (White ∷ pels) =
+    pels_of_runs-runs_after White (n + 1) pels ∙ replicate_more n White pels
+pels_of_runs-runs_after Black n (Black ∷ pels) =
+    pels_of_runs-runs_after Black (n + 1) pels ∙ replicate_more n Black pels
+pels_of_runs-runs_after White n (Black ∷ pels) = ap (λ more. replicate n White
+    ++ more) (pels_of_runs-runs_after Black 1 pels)
+pels_of_runs-runs_after Black n (White ∷ pels) = ap (λ more. replicate n Black
+    ++ more) (pels_of_runs-runs_after White 1 pels)
 
 -- no fewer of them do
 fewer_runs : (colour : Colour) (n : ℕ) (pels : List Colour) → 0 < n + length pels
@@ -170,7 +174,7 @@ fewer_runs Black n (White ∷ pels) some (suc k) h =
 runs_back : RunBitsAreRead → (at : Runs) (width : ℕ) (runs : List ℕ) (more : List Bool)
     → length at.pels + sum runs ≡ width → width < 2 ^ 16
     → ((k : ℕ) → k < length runs → length at.pels + sum (take k runs) < width)
-    → read_runs width at (alternating_bits at.colour runs ++ more) ≡ read (at.pels ++ pels_of at.colour runs) more
+    → read_runs width at (alternating_bits at.colour runs ++ more) ≡ read (at.pels ++ pels_of_runs at.colour runs) more
 unfolding alternating_bits
 runs_back runs_read at width [] more whole short below =
     all_runs width at more (omega (arith, whole)) ∙ ap (λ pels. read pels more) (sym (append-nil at.pels))
@@ -186,9 +190,9 @@ runs_back runs_read at width (n ∷ runs) more whole short below =
     let back = runs_back runs_read next width runs more (omega (arith, long, whole, sum-cons n runs)) short
     (λ k h. omega (arith, long, below (suc k) (omega arith), sum-cons n (take k runs))) in
     let count : from + n - from ≡ n = omega arith in
-    let pels : next.pels ++ pels_of (other at.colour) runs ≡ at.pels ++ pels_of at.colour (n ∷ runs) =
-    append_assoc at.pels (replicate (from + n - from) at.colour) (pels_of (other at.colour) runs)
-    ∙ ap (λ k. at.pels ++ (replicate k at.colour ++ pels_of (other at.colour) runs)) count in
+    let pels : next.pels ++ pels_of_runs (other at.colour) runs ≡ at.pels ++ pels_of_runs at.colour (n ∷ runs) =
+    append_assoc at.pels (replicate (from + n - from) at.colour) (pels_of_runs (other at.colour) runs)
+    ∙ ap (λ k. at.pels ++ (replicate k at.colour ++ pels_of_runs (other at.colour) runs)) count in
     ap (read_runs width at) b
     ∙ a_run width at (from + n) (run_bits at.colour n ++ rest) rest (omega (arith, below zero (omega arith))) run.0
     ∙ back ∙ ap (λ row. read row more) pels
@@ -196,9 +200,9 @@ runs_back runs_read at width (n ∷ runs) more whole short below =
 -- a row in one-dimensional coding is read back
 pub one_dimensional_back : RunBitsAreRead → OneDimensionalBitsAreRead
 one_dimensional_back runs_read row more limits =
-    let pels : row ≡ pels_of White (runs_of row) = sym (pels_of-runs_after White 0 row) in
+    let pels : row ≡ pels_of_runs White (runs_of row) = sym (pels_of_runs-runs_after White 0 row) in
     let sum_is : sum (runs_of row) ≡ length row =
-    sym (length-pels_of White (runs_of row)) ∙ ap (λ (xs : List Colour). length xs) (sym pels) in
+    sym (length-pels_of_runs White (runs_of row)) ∙ ap (λ (xs : List Colour). length xs) (sym pels) in
     runs_back runs_read (record { pels = []; colour = White }) (length row) (runs_of row) more (omega (arith, sum_is))
     limits.short
     (λ k h. omega (arith, fewer_runs White 0 row (omega (arith, limits.some)) k h))

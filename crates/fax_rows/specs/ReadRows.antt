@@ -33,7 +33,7 @@ row_code table b = map_fault row_fault (read_code table b)
 abbrev pub within : ℕ → ℕ → Step ℕ ℕ RowFault → Step ℕ ℕ RowFault
 within width to step = if nat_lt width to then stopped RunTooLong else step
 
--- a code of a run at a pel: a make-up code goes on, a terminating code is the last one
+-- a code of a run at a pel: a make-up code continues, a terminating code is the last one
 abbrev pub by_run_code : ℕ → ℕ → RunCode → List Bool → Step ℕ ℕ RowFault
 by_run_code width from (run.Terminating n) rest = within width (from + n) (done (from + n) rest)
 by_run_code width from (run.MakeUp n) rest = within width (from + n) (onward (from + n) rest)

@@ -39,28 +39,36 @@ is_right_of None i = true
 is_right_of (Some a) i = nat_lt a i
 
 -- the least of the n places from i on that passes the test, or the place after them all
-unfoldable pub first_place : (ℕ → Bool) → ℕ → ℕ → ℕ
-first_place test i zero = i
-first_place test i (suc n) = if test i then i else first_place test (i + 1) n
+unfoldable pub first_index : (ℕ → Bool) → ℕ → ℕ → ℕ
+first_index test i zero = i
+first_index test i (suc n) = if test i then i else first_index test (i + 1) n
 
 -- the next changing element of a row right of a place, or the width (section 4.2.1.3.1)
 unfoldable pub next_change : List Colour → Option ℕ → ℕ
-next_change row from = first_place (λ i. is_right_of from i && is_changing row i) 0 (length row)
+next_change row from = first_index (λ i. is_right_of from i && is_changing row i) 0 (length row)
 
+-- The changing elements of a step, here a0 to a2 of the coding row and b1 and b2 of its reference
+-- (section 4.2.1.3.1). A '#' is a black pel. a1 is two pels left of b1: vertical mode, VL(2).
+--
+--               b1    b2
+--     ....######......####....  reference row
+--     ...#####.....####.......  coding row
+--        a0   a1   a2
+--
 -- b1: the first changing element of the reference row right of a0 and of the colour opposite to
 -- a0's, or the width; and b2: the next one right of b1 (section 4.2.1.3.1)
 unfoldable pub b1 : List Colour → Option ℕ → Colour → ℕ
 b1 reference a0 colour =
-    first_place (λ i. is_right_of a0 i
+    first_index (λ i. is_right_of a0 i
     && (is_changing reference i && not (same_colour (pel reference i) colour))) 0 (length reference)
 
 abbrev pub b2 : List Colour → Option ℕ → Colour → ℕ
 b2 reference a0 colour = next_change reference (Some (b1 reference a0 colour))
 
 -- the pels of runs of alternating colours (section 4.1.1)
-abbrev pub pels_of : Colour → List ℕ → List Colour
-pels_of colour [] = []
-pels_of colour (n ∷ runs) = replicate n colour ++ pels_of (other colour) runs
+abbrev pub pels_of_runs : Colour → List ℕ → List Colour
+pels_of_runs colour [] = []
+pels_of_runs colour (n ∷ runs) = replicate n colour ++ pels_of_runs (other colour) runs
 
 -- the longest runs of the pels, where n pels of this colour stand before them (section 4.1.1)
 unfoldable pub runs_after : Colour → ℕ → List Colour → List ℕ

@@ -31,6 +31,6 @@ pub fn two_dimensional_rows_are_read_back()
 pub fn packing_undoes_unpacking()
     ensures { PackingUndoesUnpacking }
 {
-    fax_bits::laws::bits_stand_by_place();
+    fax_bits::laws::bits_stand_by_index();
     fax_bits::laws::bits_are_packed_in_one_way();
 }

@@ -2,13 +2,13 @@
 ghost use Rattle.std.specs.Prelude.{◌≡◌, ◌+◌, ◌-◌, ◌<◌, ◌≤◌, ◌^◌, ◌↔◌, [], ◌∷◌};
 ghost use Rattle.std.specs.Prelude.{MatchOption, IfNone, IfSome, IsTrue, length, sum};
 ghost use Rattle.std.specs.Prelude.{take, drop};
-ghost use Rattle.fax_rows.specs.Rows.{runs_of, pels_of};
+ghost use Rattle.fax_rows.specs.Rows.{runs_of, pels_of_runs};
 ghost use Rattle.fax_rows.specs.code.LongestRuns.{AreLongest};
-ghost use Rattle.fax_rows.specs.code.Put.{ArePut, HasRoom};
-ghost use Rattle.fax_rows.specs.code.Turns.{row_of};
+ghost use Rattle.fax_rows.specs.code.Put.{AreChangesPut, HasRoom};
+ghost use Rattle.fax_rows.specs.code.ChangeLists.{row_of};
 
+use crate::changes_of_row::toggle_change;
 use crate::pels::Row;
-use crate::turns::turn;
 use fax_bits::Colour;
 use std::marker::Model;
 use std::simd::prelude::*;
@@ -20,7 +20,7 @@ use std::simd::prelude::*;
 #[derive(Drop)]
 pub struct LongestRuns<'a> {
     /// Where the next run begins, and then where each run ends.
-    places: &'a [u32],
+    changes: &'a [u32],
 }
 
 impl<'a> Model for LongestRuns<'a> {
@@ -29,9 +29,9 @@ impl<'a> Model for LongestRuns<'a> {
 
     ghost Value = { List ℕ };
 
-    ghost view = { λ s. runs_between s.places.now };
+    ghost view = { λ s. runs_between s.changes.now };
 
-    ghost invariant = { λ s. AreBounds s.places.now };
+    ghost invariant = { λ s. AreBounds s.changes.now };
 }
 
 impl<'a> LongestRuns<'a> {
@@ -40,7 +40,7 @@ impl<'a> LongestRuns<'a> {
         ensures { result ≡ runs_of row.now }
     {
         LongestRuns {
-            places: &row.places[..row.end + 1],
+            changes: &row.changes[..row.end + 1],
         }
     }
 
@@ -49,7 +49,7 @@ impl<'a> LongestRuns<'a> {
         ensures count { result ≡ length self.now }
         ensures few { result ≤ 2 ^ 16 }
     {
-        self.places.len() - 1
+        self.changes.len() - 1
     }
 
     /// How many pels the next run has. `None` where no run is left.
@@ -59,11 +59,11 @@ impl<'a> LongestRuns<'a> {
         ensures none_left { IfNone result (self.new ≡ []) }
         ensures short { IfSome result (λ n. n < 2 ^ 16) }
     {
-        if self.places.len() < 2 {
+        if self.changes.len() < 2 {
             return None;
         }
-        let run = self.places[1] - self.places[0];
-        self.places = &self.places[1..];
+        let run = self.changes[1] - self.changes[0];
+        self.changes = &self.changes[1..];
         Some(run)
     }
 
@@ -76,11 +76,11 @@ impl<'a> LongestRuns<'a> {
     {
         // The text of `rows` is written by eight runs at a time. `skip` leaves out those that are
         // written.
-        if self.places.len() <= 8 {
+        if self.changes.len() <= 8 {
             return None;
         }
-        let begins = u32x8::from_slice(self.places);
-        let ends = u32x8::from_slice(&self.places[1..]);
+        let begins = u32x8::from_slice(self.changes);
+        let ends = u32x8::from_slice(&self.changes[1..]);
         Some((ends - begins).cast::<u16>().to_array())
     }
 
@@ -90,7 +90,7 @@ impl<'a> LongestRuns<'a> {
         requires { count ≤ length self.old }
         ensures { self.new ≡ drop count self.old }
     {
-        self.places = &self.places[count..];
+        self.changes = &self.changes[count..];
     }
 }
 
@@ -98,29 +98,29 @@ impl<'a> LongestRuns<'a> {
 pub(crate) fn are_longest(runs: &[u32], width: u32) -> bool
     ensures { IsTrue result ↔ AreLongest runs.now width }
 {
-    let mut left = width;
+    let mut remaining = width;
     for (i, n) in runs.iter().enumerate() {
-        if (i > 0 && *n == 0) || *n > left {
+        if (i > 0 && *n == 0) || *n > remaining {
             return false;
         }
-        left -= *n;
+        remaining -= *n;
     }
-    left == 0
+    remaining == 0
 }
 
-/// Puts the places where runs end, white first, and answers where these places end.
-pub(crate) fn put_runs(places: &mut [u32], runs: &[u32], width: u32) -> usize
+/// Puts the places where runs end, white first, and returns where these places end.
+pub(crate) fn put_runs(changes: &mut [u32], runs: &[u32], width: u32) -> usize
     requires short { width < 2 ^ 16 }
-    requires room { HasRoom width places.old }
+    requires room { HasRoom width changes.old }
     requires whole { sum runs.now ≡ width }
-    ensures pels { row_of places.new result width ≡ pels_of Colour.White runs.now }
-    ensures put { ArePut width places.new result width }
+    ensures pels { row_of changes.new result width ≡ pels_of_runs Colour.White runs.now }
+    ensures put { AreChangesPut width changes.new result width }
 {
     let mut end = 1;
     let mut total = 0;
     for n in runs {
         total += *n;
-        end = turn(places, end, total);
+        end = toggle_change(changes, end, total);
     }
     end
 }

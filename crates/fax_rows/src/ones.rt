@@ -18,12 +18,12 @@ macro_rules! counts {
 
 /// Each of the eight bits doubles the list: first the bytes without it, then those with it, whose
 /// places begin with its own.
-macro_rules! places {
+macro_rules! changes {
     ([$($a:tt $b:tt $c:tt $d:tt $e:tt $f:tt $g:tt $h:tt),*]) => {
         [$($a, $b, $c, $d, $e, $f, $g, $h),*]
     };
-    ([$($a:tt $b:tt $c:tt $d:tt $e:tt $f:tt $g:tt $h:tt),*] $place:tt $($more:tt)*) => {
-        places!([$($a $b $c $d $e $f $g $h,)* $($place $a $b $c $d $e $f $g),*] $($more)*)
+    ([$($a:tt $b:tt $c:tt $d:tt $e:tt $f:tt $g:tt $h:tt),*] $column:tt $($more:tt)*) => {
+        changes!([$($a $b $c $d $e $f $g $h,)* $($column $a $b $c $d $e $f $g),*] $($more)*)
     };
 }
 
@@ -31,33 +31,33 @@ macro_rules! places {
 static COUNTS: [u8; 256] = counts!([0] 7 6 5 4 3 2 1 0);
 
 /// Eight numbers for each byte: the places of its ones, from 0 for the highest bit, then zeros.
-static PLACES: [u8; 2048] = places!([0 0 0 0 0 0 0 0] 7 6 5 4 3 2 1 0);
+static PLACES: [u8; 2048] = changes!([0 0 0 0 0 0 0 0] 7 6 5 4 3 2 1 0);
 
-/// Puts a place for each one in a byte, whose highest bit is at place `from`, and answers where
+/// Puts a place for each one in a byte, whose highest bit is at place `from`, and returns where
 /// they end. Eight places are written: what stands after the end does not count.
 #[inline(always)]
-fn put_ones_of_byte(places: &mut [u32], end: usize, from: u32, byte: u8) -> usize
-    requires room { end + 8 ≤ length places.old }
+fn put_ones_of_byte(changes: &mut [u32], end: usize, from: u32, byte: u8) -> usize
+    requires room { end + 8 ≤ length changes.old }
     requires short { from + 8 < 2 ^ 32 }
-    ensures put { take result places.new ≡ take end places.old ++ ones_among from 7 byte 8 }
+    ensures put { take result changes.new ≡ take end changes.old ++ ones_among from 7 byte 8 }
     ensures within { result ≤ end + 8 }
-    ensures same_len { length places.new ≡ length places.old }
+    ensures same_len { length changes.new ≡ length changes.old }
 {
     let at = usize::from(byte);
     let ones = u8x8::from_slice(&PLACES[8 * at..]).cast::<u32>();
-    (ones + u32x8::splat(from)).copy_to_slice(&mut places[end..]);
+    (ones + u32x8::splat(from)).copy_to_slice(&mut changes[end..]);
     end + usize::from(COUNTS[at])
 }
 
-/// Puts a place for each one in a word, whose highest bit is at place `from`, by bytes, and answers
+/// Puts a place for each one in a word, whose highest bit is at place `from`, by bytes, and returns
 /// where they end.
 #[inline(always)]
-fn put_ones_by_bytes(places: &mut [u32], end: usize, from: u32, word: u64) -> usize
-    requires room { end + 64 ≤ length places.old }
+fn put_ones_by_bytes(changes: &mut [u32], end: usize, from: u32, word: u64) -> usize
+    requires room { end + 64 ≤ length changes.old }
     requires short { from + 64 < 2 ^ 32 }
-    ensures put { take result places.new ≡ take end places.old ++ ones_among from 63 word 64 }
+    ensures put { take result changes.new ≡ take end changes.old ++ ones_among from 63 word 64 }
     ensures within { result ≤ end + 64 }
-    ensures same_len { length places.new ≡ length places.old }
+    ensures same_len { length changes.new ≡ length changes.old }
 {
     // Eight lanes are stored for each byte, of which the next byte's are put over those that do not
     // count. That needs no test for room, since a word has at most 64 changes. A word of fewer than
@@ -65,47 +65,47 @@ fn put_ones_by_bytes(places: &mut [u32], end: usize, from: u32, word: u64) -> us
     let bytes = word.to_be_bytes();
     let mut end = end;
     for k in 0..8 {
-        end = put_ones_of_byte(places, end, from + 8 * k, bytes[k as usize]);
+        end = put_ones_of_byte(changes, end, from + 8 * k, bytes[k as usize]);
     }
     end
 }
 
 /// Puts a place for each one in a word, whose highest bit is at place `from`, one by one, and
-/// answers where they end.
+/// returns where they end.
 #[inline(always)]
-fn put_ones_one_by_one(places: &mut [u32], end: usize, from: u32, word: u64) -> usize
-    requires room { end + 64 ≤ length places.old }
+fn put_ones_one_by_one(changes: &mut [u32], end: usize, from: u32, word: u64) -> usize
+    requires room { end + 64 ≤ length changes.old }
     requires short { from + 64 < 2 ^ 32 }
-    ensures put { take result places.new ≡ take end places.old ++ ones_among from 63 word 64 }
+    ensures put { take result changes.new ≡ take end changes.old ++ ones_among from 63 word 64 }
     ensures within { result ≤ end + 64 }
-    ensures same_len { length places.new ≡ length places.old }
+    ensures same_len { length changes.new ≡ length changes.old }
 {
     let mut end = end;
-    let mut left = word;
-    while left != 0 {
-        let at = left.leading_zeros();
-        places[end] = from + at;
+    let mut remaining = word;
+    while remaining != 0 {
+        let at = remaining.leading_zeros();
+        changes[end] = from + at;
         end += 1;
-        left ^= 1 << (63 - at);
+        remaining ^= 1 << (63 - at);
     }
     end
 }
 
-/// Puts a place for each one in a word, whose highest bit is at place `from`, and answers where
+/// Puts a place for each one in a word, whose highest bit is at place `from`, and returns where
 /// they end.
 #[inline(always)]
-pub(crate) fn put_ones(places: &mut [u32], end: usize, from: u32, word: u64) -> usize
-    requires room { end + 64 ≤ length places.old }
+pub(crate) fn put_ones(changes: &mut [u32], end: usize, from: u32, word: u64) -> usize
+    requires room { end + 64 ≤ length changes.old }
     requires short { from + 64 < 2 ^ 32 }
-    ensures put { take result places.new ≡ take end places.old ++ ones_among from 63 word 64 }
+    ensures put { take result changes.new ≡ take end changes.old ++ ones_among from 63 word 64 }
     ensures within { result ≤ end + 64 }
-    ensures same_len { length places.new ≡ length places.old }
+    ensures same_len { length changes.new ≡ length changes.old }
 {
     if word == 0 {
         return end;
     }
     if word.count_ones() >= MANY_ONES {
-        return put_ones_by_bytes(places, end, from, word);
+        return put_ones_by_bytes(changes, end, from, word);
     }
-    put_ones_one_by_one(places, end, from, word)
+    put_ones_one_by_one(changes, end, from, word)
 }

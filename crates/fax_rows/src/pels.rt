@@ -5,9 +5,9 @@ ghost use Rattle.std.specs.List.{filter, range_with_len};
 ghost use Rattle.fax_rows.specs.Coded.{packed_len, packed_row};
 ghost use Rattle.fax_rows.specs.Rows.{other as other_than, runs_of, is_changing, pel as pel_of};
 
+use crate::change_list::ChangingElements;
+use crate::changes_of_row::{changes_up_to, colour_after, copy_changes, invert, put_sentinels};
 use crate::longest_runs::{LongestRuns, are_longest, put_runs};
-use crate::placed_rows::PlacedRow;
-use crate::turns::{close, colour_after, copy_places, places_up_to, turn_first};
 use fax_bits::{Colour, Memory};
 use std::alloc::Global;
 use std::marker::Model;
@@ -16,7 +16,7 @@ use std::marker::Model;
 #[derive(Drop)]
 pub struct Row {
     /// A 0, the places of change in ascending order, and at least three times the width.
-    pub(crate) places: Vec<u32>,
+    pub(crate) changes: Vec<u32>,
     /// The index after the last change.
     pub(crate) end: usize,
     pub(crate) width: u32,
@@ -25,25 +25,25 @@ pub struct Row {
 impl Model for Row {
     ghost use Rattle.std.specs.Prelude.{List};
     ghost use Rattle.fax_bits.specs.declared.Colour.{Colour};
-    ghost use Rattle.fax_rows.specs.code.Turns.{row_of, ArePlaces};
+    ghost use Rattle.fax_rows.specs.code.ChangeLists.{row_of, AreChanges};
 
     ghost Value = { List Colour };
 
-    ghost view = { λ row. row_of row.places.items row.end row.width };
+    ghost view = { λ row. row_of row.changes.items row.end row.width };
 
-    ghost invariant = { λ row. ArePlaces row.places.items row.end row.width };
+    ghost invariant = { λ row. AreChanges row.changes.items row.end row.width };
 }
 
 impl Row {
-    ghost use Rattle.fax_rows.specs.code.PlacedRow.{placed_pels};
+    ghost use Rattle.fax_rows.specs.code.ChangingElements.{element_pels};
 
     /// The row, lent as its places of change.
     #[inline(always)]
-    pub(crate) fn placed(&self) -> PlacedRow<'_>
-        ensures { placed_pels result ≡ self.now }
+    pub(crate) fn elements(&self) -> ChangingElements<'_>
+        ensures { element_pels result ≡ self.now }
     {
-        PlacedRow {
-            places: &self.places,
+        ChangingElements {
+            changes: &self.changes,
             end: self.end,
             width: self.width,
         }
@@ -60,10 +60,10 @@ impl Row {
         ensures pels { IfOk result (λ row. row ≡ replicate width Colour.White) }
         ensures same_width { IfOk result (λ row. length row ≡ width) }
     {
-        let mut places = vec![in alloc; width; width as usize + 4].map_err(|_| Memory)?;
-        places[0] = 0;
+        let mut changes = vec![in alloc; width; width as usize + 4].map_err(|_| Memory)?;
+        changes[0] = 0;
         Ok(Row {
-            places,
+            changes,
             end: 1,
             width,
         })
@@ -85,14 +85,14 @@ impl Row {
         requires { i < length self.now }
         ensures { result ≡ pel_of self.now i }
     {
-        colour_after(places_up_to(&self.places, self.end, i))
+        colour_after(changes_up_to(&self.changes, self.end, i))
     }
 
     /// The changing elements, from left to right (T.4, section 4.2.1.3.1).
     pub fn changes(&self) -> &[u32]
         ensures { result.now ≡ filter (is_changing self.now) (range_with_len 0 (length self.now)) }
     {
-        &self.places[1..self.end]
+        &self.changes[1..self.end]
     }
 
     /// The lengths in pels of the longest runs, white first: 0 where the row begins black
@@ -116,11 +116,11 @@ impl Row {
     pub fn exchange(&mut self)
         ensures { self.new ≡ map other_than self.old }
     {
-        let places = self.places.as_mut_slice();
-        self.end = turn_first(places, self.end, self.width);
+        let changes = self.changes.as_mut_slice();
+        self.end = invert(changes, self.end, self.width);
     }
 
-    /// Takes the pels of a row of the same width. Mostly that row is white.
+    /// Decodes the pels of a row of the same width. Mostly that row is white.
     pub fn set_from(&mut self, row: &Row)
         requires { length self.old ≡ length row.now }
         ensures { self.new ≡ row.now }
@@ -128,8 +128,8 @@ impl Row {
         if row.end == 1 {
             return self.whiten();
         }
-        let places = self.places.as_mut_slice();
-        copy_places(places, &row.places, row.end, self.width);
+        let changes = self.changes.as_mut_slice();
+        copy_changes(changes, &row.changes, row.end, self.width);
         self.end = row.end;
     }
 
@@ -144,8 +144,8 @@ impl Row {
         are_longest(runs, width)
     }
 
-    /// Takes the pels of the row of this width that has these longest runs, white first, and
-    /// answers whether there is one. Where there is none, the row stays as it is. It takes no
+    /// Decodes the pels of the row of this width that has these longest runs, white first, and
+    /// returns whether there is one. Where there is none, the row stays as it is. It takes no
     /// memory.
     pub fn set_runs(&mut self, runs: &[u32]) -> bool
         ensures set { IsTrue result → runs_of self.new ≡ runs.now }
@@ -157,9 +157,9 @@ impl Row {
         if !are_longest(runs, self.width) {
             return false;
         }
-        let places = self.places.as_mut_slice();
-        let end = put_runs(places, runs, self.width);
-        self.end = close(places, end, self.width);
+        let changes = self.changes.as_mut_slice();
+        let end = put_runs(changes, runs, self.width);
+        self.end = put_sentinels(changes, end, self.width);
         true
     }
 
@@ -178,7 +178,7 @@ impl Row {
         ensures { self.new ≡ replicate (length self.old) Colour.White }
     {
         // It is public, so that a strip's reader is restarted without memory.
-        let places = self.places.as_mut_slice();
-        self.end = close(places, 1, self.width);
+        let changes = self.changes.as_mut_slice();
+        self.end = put_sentinels(changes, 1, self.width);
     }
 }

@@ -5,16 +5,16 @@ ghost use Rattle.std.specs.Prelude.{Some, None, OnOk, OnErr, IfOk};
 ghost use Rattle.fax_bits.specs.Written.{run_bits};
 ghost use Rattle.fax_bits.specs.views.Sink.{Appends, AppendsPrefix, AppendsAllBut};
 ghost use Rattle.fax_rows.specs.Rows.{other as other_than};
-ghost use Rattle.fax_rows.specs.code.ChangesAhead as Spec;
+ghost use Rattle.fax_rows.specs.code.CodingElements as Spec;
 ghost use Rattle.fax_rows.specs.code.Choice as Choice;
 ghost use Rattle.fax_rows.specs.Coded as Coded;
-ghost use Rattle.fax_rows.specs.code.PlacedRow.{placed_pels};
+ghost use Rattle.fax_rows.specs.code.ChangingElements.{element_pels};
 
+use crate::change_list::RowPair;
+use crate::changes_of_row::colour_after;
 use crate::longest_runs::LongestRuns;
 use crate::pels::Row;
-use crate::placed_rows::RowPair;
 use crate::runs::other;
-use crate::turns::colour_after;
 use fax_bits::{BitSink, Colour, Memory, ModeCode, PendingBits, SHORT_RUN};
 
 /// Puts a run of the colour and a run of the other colour after it (T.4, section 4.1.1): short ones
@@ -29,8 +29,8 @@ fn put_pair(
 ) -> Result<PendingBits, Memory>
     requires first { first < 2 ^ 16 }
     requires second { second < 2 ^ 16 }
-    ensures ok { IfOk result (λ left. AppendsAllBut sink.old
-        (pending ++ (run_bits colour first ++ run_bits (other_than colour) second)) left sink.new) }
+    ensures ok { IfOk result (λ remaining. AppendsAllBut sink.old
+        (pending ++ (run_bits colour first ++ run_bits (other_than colour) second)) remaining sink.new) }
     ensures err { OnErr result (AppendsPrefix sink.old
         (pending ++ (run_bits colour first ++ run_bits (other_than colour) second)) sink.new) }
 {
@@ -66,7 +66,7 @@ pub fn put_1d(row: &Row, sink: &mut BitSink) -> Result<(), Memory>
 
 /// How far a row is written (T.4, section 4.2.1.3.1).
 #[derive(Clone, Copy)]
-struct WrittenTo {
+struct EncoderState {
     /// The place of a0, where `None` is just before the first pel.
     a0: Option<u32>,
     /// The index of a1 among the row's places.
@@ -77,7 +77,7 @@ struct WrittenTo {
 
 /// What stands ahead of a0 on the row that is written and on its reference row.
 #[derive(Clone, Copy)]
-struct ChangesAhead {
+struct CodingElements {
     /// Where the next step begins: `None` is just before the first pel.
     a0: Option<u32>,
     /// The colour of a0.
@@ -92,22 +92,22 @@ struct ChangesAhead {
     reference: usize,
 }
 
-impl ChangesAhead {
+impl CodingElements {
     /// What stands ahead inside a row.
     #[inline(always)]
-    fn of(rows: RowPair, at: WrittenTo) -> ChangesAhead
-        requires places { Spec.IsWrittenTo rows at }
+    fn of(rows: RowPair, at: EncoderState) -> CodingElements
+        requires changes { Spec.IsEncoderState rows at }
         requires unfinished { unwrap_or at.a0 0 < rows.row.width }
-        ensures places { Spec.AreAhead rows.entry result }
+        ensures changes { Spec.AreCodingElements rows.entry result }
         ensures start { result.a0 ≡ at.a0 }
     {
-        ChangesAhead {
+        CodingElements {
             a0: at.a0,
             colour: colour_after(at.row),
-            a1: rows.row.places[at.row],
-            a2: rows.row.places[at.row + 1],
-            b1: rows.reference.places[at.reference],
-            b2: rows.reference.places[at.reference + 1],
+            a1: rows.row.changes[at.row],
+            a2: rows.row.changes[at.row + 1],
+            b1: rows.reference.changes[at.reference],
+            b2: rows.reference.changes[at.reference + 1],
             row: at.row,
             reference: at.reference,
         }
@@ -115,13 +115,13 @@ impl ChangesAhead {
 
     /// After pass mode: a0 is put under b2.
     #[inline(always)]
-    fn after_pass(self, rows: RowPair) -> WrittenTo
-        requires places { Spec.AreAhead rows self }
-        requires left { self.b2 < self.a1 }
-        ensures places { Spec.IsWrittenTo rows.entry result }
+    fn after_pass(self, rows: RowPair) -> EncoderState
+        requires changes { Spec.AreCodingElements rows self }
+        requires left_hand { self.b2 < self.a1 }
+        ensures changes { Spec.IsEncoderState rows.entry result }
         ensures start { result.a0 ≡ Some self.b2 }
     {
-        WrittenTo {
+        EncoderState {
             a0: Some(self.b2),
             row: self.row,
             reference: self.reference + 2,
@@ -130,13 +130,13 @@ impl ChangesAhead {
 
     /// After a1 that is under b1: the next b1 is the reference row's next changing element.
     #[inline(always)]
-    fn after_b1(self, rows: RowPair) -> WrittenTo
-        requires places { Spec.AreAhead rows self }
+    fn after_b1(self, rows: RowPair) -> EncoderState
+        requires changes { Spec.AreCodingElements rows self }
         requires same { self.a1 ≡ self.b1 }
-        ensures places { Spec.IsWrittenTo rows.entry result }
+        ensures changes { Spec.IsEncoderState rows.entry result }
         ensures start { result.a0 ≡ Some self.a1 }
     {
-        WrittenTo {
+        EncoderState {
             a0: Some(self.a1),
             row: self.row + 1,
             reference: self.reference + 1,
@@ -145,26 +145,26 @@ impl ChangesAhead {
 
     /// After any a1.
     #[inline(always)]
-    fn after_a1(self, rows: RowPair) -> WrittenTo
-        requires places { Spec.AreAhead rows self }
-        ensures places { Spec.IsWrittenTo rows.entry result }
+    fn after_a1(self, rows: RowPair) -> EncoderState
+        requires changes { Spec.AreCodingElements rows self }
+        ensures changes { Spec.IsEncoderState rows.entry result }
         ensures start { result.a0 ≡ Some self.a1 }
     {
-        WrittenTo {
+        EncoderState {
             a0: Some(self.a1),
             row: self.row + 1,
-            reference: rows.reference.turned_b1_after(self.reference, self.a1),
+            reference: rows.reference.b1_after_vertical(self.reference, self.a1),
         }
     }
 
     /// After horizontal mode: a0 is put on a2.
     #[inline(always)]
-    fn after_a2(self, rows: RowPair) -> WrittenTo
-        requires places { Spec.AreAhead rows self }
-        ensures places { Spec.IsWrittenTo rows.entry result }
+    fn after_a2(self, rows: RowPair) -> EncoderState
+        requires changes { Spec.AreCodingElements rows self }
+        ensures changes { Spec.IsEncoderState rows.entry result }
         ensures start { result.a0 ≡ Some self.a2 }
     {
-        WrittenTo {
+        EncoderState {
             a0: Some(self.a2),
             row: self.row + 2,
             reference: rows.reference.b1_after(self.reference, self.a2),
@@ -178,7 +178,7 @@ impl ChangesAhead {
 fn choose(a1: u32, b1: u32, b2: u32) -> ModeCode
     requires a1 { a1 < 2 ^ 16 }
     requires b1 { b1 < 2 ^ 16 }
-    ensures { result ≡ Choice.chosen_mode (record { a1 = a1; a2 = 0; b1 = b1; b2 = b2 }) }
+    ensures { result ≡ Choice.canonical_mode (record { a1 = a1; a2 = 0; b1 = b1; b2 = b2 }) }
 {
     if b2 < a1 {
         return ModeCode::Pass;
@@ -191,21 +191,21 @@ fn choose(a1: u32, b1: u32, b2: u32) -> ModeCode
     }
 }
 
-/// Puts the step from a0 where a1 is not under b1, and answers how far the row is written then, and
+/// Puts the step from a0 where a1 is not under b1, and returns how far the row is written then, and
 /// which bits are pending.
 #[inline(always)]
 fn put_far_step(
     rows: RowPair,
-    ahead: ChangesAhead,
+    ahead: CodingElements,
     pending: PendingBits,
     sink: &mut BitSink,
-) -> Result<(WrittenTo, PendingBits), Memory>
-    requires places { Spec.AreAhead rows ahead }
+) -> Result<(EncoderState, PendingBits), Memory>
+    requires changes { Spec.AreCodingElements rows ahead }
     ensures ok { IfOk result (λ next. AppendsAllBut sink.old
         (pending ++ Spec.bits_ahead rows.entry ahead.a0) next.1 sink.new) }
     ensures next { IfOk result (λ next.
-        next.0.a0 ≡ Some (Spec.place_ahead rows.entry ahead.a0)) }
-    ensures places { IfOk result (λ next. Spec.IsWrittenTo rows.entry next.0) }
+        next.0.a0 ≡ Some (Spec.a0_ahead rows.entry ahead.a0)) }
+    ensures changes { IfOk result (λ next. Spec.IsEncoderState rows.entry next.0) }
     ensures err { OnErr result (AppendsPrefix sink.old
         (pending ++ Spec.bits_ahead rows.entry ahead.a0) sink.new) }
 {
@@ -230,25 +230,25 @@ fn put_far_step(
     }
 }
 
-/// Puts the next step, and answers how far the row is written then, and which bits are pending.
+/// Puts the next step, and returns how far the row is written then, and which bits are pending.
 #[inline(always)]
 fn put_step(
     rows: RowPair,
-    at: WrittenTo,
+    at: EncoderState,
     pending: PendingBits,
     sink: &mut BitSink,
-) -> Result<(WrittenTo, PendingBits), Memory>
-    requires places { Spec.IsWrittenTo rows at }
+) -> Result<(EncoderState, PendingBits), Memory>
+    requires changes { Spec.IsEncoderState rows at }
     requires unfinished { unwrap_or at.a0 0 < rows.row.width }
     ensures ok { IfOk result (λ next. AppendsAllBut sink.old
         (pending ++ Spec.bits_ahead rows.entry at.a0) next.1 sink.new) }
     ensures next { IfOk result (λ next.
-        next.0.a0 ≡ Some (Spec.place_ahead rows.entry at.a0)) }
-    ensures places { IfOk result (λ next. Spec.IsWrittenTo rows.entry next.0) }
+        next.0.a0 ≡ Some (Spec.a0_ahead rows.entry at.a0)) }
+    ensures changes { IfOk result (λ next. Spec.IsEncoderState rows.entry next.0) }
     ensures err { OnErr result (AppendsPrefix sink.old
         (pending ++ Spec.bits_ahead rows.entry at.a0) sink.new) }
 {
-    let ahead = ChangesAhead::of(rows, at);
+    let ahead = CodingElements::of(rows, at);
     if ahead.a1 == ahead.b1 {
         let pending = pending.put_mode(sink, ModeCode::Vertical(0))?;
         return Ok((ahead.after_b1(rows), pending));
@@ -259,13 +259,13 @@ fn put_step(
 /// Puts the steps of a row.
 fn put_steps(rows: RowPair, sink: &mut BitSink) -> Result<(), Memory>
     ensures ok { OnOk result (Appends sink.old (Coded.two_dimensional_bits
-        (placed_pels rows.entry.reference) (placed_pels rows.entry.row)) sink.new) }
+        (element_pels rows.entry.reference) (element_pels rows.entry.row)) sink.new) }
     ensures err { OnErr result (AppendsPrefix sink.old (Coded.two_dimensional_bits
-        (placed_pels rows.entry.reference) (placed_pels rows.entry.row)) sink.new) }
+        (element_pels rows.entry.reference) (element_pels rows.entry.row)) sink.new) }
 {
-    // One index goes along the row and one along its reference: after each step both go on to the
-    // first place right of a0, by which a1, a2, a0's colour, b1 and b2 are known.
-    let mut at = WrittenTo {
+    // One index goes along the row and one along its reference: after each step both continue to
+    // the first place right of a0, by which a1, a2, a0's colour, b1 and b2 are known.
+    let mut at = EncoderState {
         a0: None,
         row: 1,
         reference: 1,
@@ -293,8 +293,8 @@ pub fn put_2d(reference: &Row, row: &Row, sink: &mut BitSink) -> Result<(), Memo
     // That its bits are read back is a law of the definitions (`laws`), which a caller calls where
     // a proof needs it.
     let rows = RowPair {
-        reference: reference.placed(),
-        row: row.placed(),
+        reference: reference.elements(),
+        row: row.elements(),
     };
     put_steps(rows, sink)
 }

@@ -28,10 +28,10 @@ pub(crate) fn other(colour: Colour) -> Colour
 /// Reads a code for a run of the colour.
 #[inline(always)]
 fn read_run_code(source: &mut BitSource, colour: Colour) -> Result<RunCode, CodeFault>
-    ensures read { read_code_of (run_table colour) source.old.left
-        ≡ answered (λ code. code) result source.new.left }
+    ensures read { read_code_of (run_table colour) source.old.remaining
+        ≡ answered (λ code. code) result source.new.remaining }
     ensures same_end { KeepsEnd source.old source.new }
-    ensures shorter { OnOk result (length source.new.left < length source.old.left) }
+    ensures shorter { OnOk result (length source.new.remaining < length source.old.remaining) }
 {
     match colour {
         Colour::White => read_code::<WhiteRuns>(source),
@@ -44,7 +44,7 @@ fn read_run_code(source: &mut BitSource, colour: Colour) -> Result<RunCode, Code
 pub(crate) struct ReadRun {
     pub pels: u32,
     /// Whether its codes are seen to be those that T.4 chooses.
-    pub is_chosen: bool,
+    pub is_canonical: bool,
 }
 
 /// Reads a run of the colour whose first pel is `from`, code by code, and names its fault where it
@@ -59,18 +59,18 @@ fn read_run(
 ) -> Result<ReadRun, RowFault>
     requires width { width < 2 ^ 16 }
     requires from { from ≤ width }
-    ensures read { read_run_of colour width from source.old.left
-        ≡ answered (λ run. from + run.pels) result source.new.left }
-    ensures chosen { IfOk result (λ run. IsTrue run.is_chosen
-        → source.old.left ≡ run_bits colour run.pels ++ source.new.left) }
+    ensures read { read_run_of colour width from source.old.remaining
+        ≡ answered (λ run. from + run.pels) result source.new.remaining }
+    ensures chosen { IfOk result (λ run. IsTrue run.is_canonical
+        → source.old.remaining ≡ run_bits colour run.pels ++ source.new.remaining) }
     ensures within { IfOk result (λ run. from + run.pels ≤ width) }
     ensures same_end { KeepsEnd source.old source.new }
-    ensures shorter { OnOk result (length source.new.left < length source.old.left) }
+    ensures shorter { OnOk result (length source.new.remaining < length source.old.remaining) }
 {
     fax_bits::laws::chosen_codes_are_written();
     let mut pels = 0;
     // Whether T.4 chooses the codes so far where the next one ends the run, and where it does not.
-    let mut is_chosen = true;
+    let mut is_canonical = true;
     let mut are_longest = true;
     loop {
         match read_run_code(source, colour)? {
@@ -79,14 +79,14 @@ fn read_run(
                 if from + pels > width {
                     return Err(RowFault::RunTooLong);
                 }
-                return Ok(ReadRun { pels, is_chosen });
+                return Ok(ReadRun { pels, is_canonical });
             }
             RunCode::MakeUp(more) => {
                 pels += u32::from(more);
                 if from + pels > width {
                     return Err(RowFault::RunTooLong);
                 }
-                is_chosen = are_longest;
+                is_canonical = are_longest;
                 are_longest &= u32::from(more) == LONGEST_MAKE_UP;
             }
             RunCode::Extension => return Err(RowFault::Extension),
@@ -96,7 +96,7 @@ fn read_run(
 
 /// What `read_run` does for a source that stands in a value: only a copy of it is lent.
 #[inline(always)]
-pub(crate) fn last_run(
+pub(crate) fn run_by_table(
     source: &mut BitSource,
     colour: Colour,
     width: u32,
@@ -104,18 +104,18 @@ pub(crate) fn last_run(
 ) -> Result<ReadRun, RowFault>
     requires width { width < 2 ^ 16 }
     requires from { from ≤ width }
-    ensures read { read_run_of colour width from source.old.left
-        ≡ answered (λ run. from + run.pels) result source.new.left }
-    ensures ok { IfOk result (λ run. IsRun colour source.old.left run.pels source.new.left) }
-    ensures chosen { IfOk result (λ run. IsTrue run.is_chosen
-        → source.old.left ≡ run_bits colour run.pels ++ source.new.left) }
+    ensures read { read_run_of colour width from source.old.remaining
+        ≡ answered (λ run. from + run.pels) result source.new.remaining }
+    ensures ok { IfOk result (λ run. IsRun colour source.old.remaining run.pels source.new.remaining) }
+    ensures chosen { IfOk result (λ run. IsTrue run.is_canonical
+        → source.old.remaining ≡ run_bits colour run.pels ++ source.new.remaining) }
     ensures within { IfOk result (λ run. from + run.pels ≤ width) }
     ensures same_end { KeepsEnd source.old source.new }
-    ensures shorter { OnOk result (length source.new.left < length source.old.left) }
+    ensures shorter { OnOk result (length source.new.remaining < length source.old.remaining) }
 {
     // What is lent to a function stands in memory: so `read_run`, which knows every fault, gets a
     // copy, and the source goes to the copy's place.
-    let mut copy = source.again();
+    let mut copy = source.fork();
     let run = read_run(&mut copy, colour, width, from)?;
     source.skip_to(copy.place());
     Ok(run)

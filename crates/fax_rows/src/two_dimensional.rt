@@ -7,29 +7,29 @@ ghost use Rattle.fax_bits.specs.views.Source.{KeepsEnd};
 ghost use Rattle.fax_rows.specs.Coded.{two_dimensional_bits};
 ghost use Rattle.fax_bits.specs.Reading.{answered, failed};
 ghost use Rattle.fax_rows.specs.ReadRows.{read_two_dimensional};
-ghost use Rattle.fax_rows.specs.code.PlacedRow.{placed_pels};
+ghost use Rattle.fax_rows.specs.code.ChangingElements.{element_pels};
 ghost use Rattle.fax_rows.specs.code.Put.{HasRoom};
 ghost use Rattle.fax_rows.specs.code.RowStop.{IsRowStop};
 ghost use Rattle.fax_rows.specs.code.ReadRow.{IsReadRow};
 
 use crate::RowFault;
+use crate::change_list::ChangingElements;
+use crate::changes_of_row::put_sentinels;
 use crate::pels::Row;
-use crate::placed_rows::PlacedRow;
-use crate::turns::close;
-use due::read_on;
 use fax_bits::BitSource;
-use horizontal_runs::{RowStop, Unread};
+use horizontal_runs::{LookupExit, RowStop};
 use modes::read_by_look_ups;
 use over_white::read_over_white;
+use slow_path::finish_by_table;
 
-mod choices;
-mod copied;
-mod due;
+mod canonical;
 mod horizontal_runs;
 mod modes;
 mod over_white;
-mod several;
+mod slow_path;
 mod steps;
+mod vertical_0_batches;
+mod vertical_batch;
 
 /// Over a reference row of fewer changes than one for so many pels, several vertical modes are read
 /// by one look-up.
@@ -41,75 +41,80 @@ struct ReadRow {
     /// The index after the last place.
     end: usize,
     /// Whether its codes are seen to be those that T.4 chooses.
-    is_chosen: bool,
+    is_canonical: bool,
 }
 
-/// Reads the modes of a row over the reference row, and answers where its places end: by look-ups,
-/// and from a code on that none of them finds, by the tables. With `CHOICE` it stops at the first
-/// step that is not seen to be T.4's choice; the source is then as it was.
+/// Reads the modes of a row over the reference row, and returns where its places end: by look-ups,
+/// and from a code on that none of them finds, by the tables. With `CANONICAL` it stops at the
+/// first step that is not seen to be T.4's choice; the source is then as it was.
 #[inline(always)]
-fn read_modes<const CHOICE: bool>(
+fn read_modes<const CANONICAL: bool>(
     source: &mut BitSource,
-    reference: PlacedRow,
-    places: &mut [u32],
+    reference: ChangingElements,
+    changes: &mut [u32],
 ) -> Result<usize, RowStop>
-    requires room { HasRoom reference.width places.old }
-    ensures read { IfOk result (λ end. IsReadRow CHOICE reference.entry source.old.left places.new
-        end source.new.left) }
+    requires room { HasRoom reference.width changes.old }
+    ensures read { IfOk result (λ end. IsReadRow CANONICAL reference.entry source.old.remaining changes.new
+        end source.new.remaining) }
     ensures stop { IfErr result
-        (λ stop. IsRowStop CHOICE reference.entry source.old.left stop) }
+        (λ stop. IsRowStop CANONICAL reference.entry source.old.remaining stop) }
     ensures unchanged { OnErr result (source.new ≡ source.old) }
-    ensures room { HasRoom reference.entry.width places.new }
+    ensures room { HasRoom reference.entry.width changes.new }
     ensures same_end { KeepsEnd source.old source.new }
 {
-    // Each reader by look-ups hands out what is due where none finds the next code, with its place
-    // and how far the row is read, and leaves the source as it was. `read_on` goes on from there to
-    // the row's end by the tables, which know every fault. So no row is read twice but for its
-    // choice.
+    // Each reader by look-ups returns what is expected where none finds the next code, with its
+    // place and how far the row is read, and leaves the source as it was. `finish_by_table`
+    // continues from there to the row's end by the tables, which know every fault. So no row is
+    // read twice but for its choice.
     let read = if reference.end == 1 {
-        read_over_white::<CHOICE>(source, reference, places)
+        read_over_white::<CANONICAL>(source, reference, changes)
     } else if reference.end < reference.width as usize / FEW_CHANGES {
-        read_by_look_ups::<CHOICE, true>(source, reference, places)
+        read_by_look_ups::<CANONICAL, true>(source, reference, changes)
     } else {
-        read_by_look_ups::<CHOICE, false>(source, reference, places)
+        read_by_look_ups::<CANONICAL, false>(source, reference, changes)
     };
     match read {
         Ok(end) => Ok(end),
-        Err(Unread::Due(pause)) => read_on::<CHOICE>(source, reference, places, pause),
-        Err(Unread::Stopped(stop)) => Err(stop),
+        Err(LookupExit::NeedsTable(slow_path_at)) => finish_by_table::<CANONICAL>(
+            source,
+            reference,
+            changes,
+            slow_path_at,
+        ),
+        Err(LookupExit::Stopped(stop)) => Err(stop),
     }
 }
 
 /// Reads the modes of a row over the reference row; where they are not T.4's choice, once more, for
 /// their pels alone.
 #[inline(always)]
-fn read_places<const CHOICE: bool>(
+fn read_places<const CANONICAL: bool>(
     source: &mut BitSource,
-    reference: PlacedRow,
-    places: &mut [u32],
+    reference: ChangingElements,
+    changes: &mut [u32],
 ) -> Result<ReadRow, RowFault>
-    requires room { HasRoom reference.width places.old }
-    ensures read { IfOk result (λ read. IsReadRow read.is_chosen reference.entry source.old.left
-        places.new read.end source.new.left) }
-    ensures err { IfErr result (λ fault. read_two_dimensional (placed_pels reference.entry)
-        source.old.left ≡ failed fault) }
-    ensures room { HasRoom reference.entry.width places.new }
+    requires room { HasRoom reference.width changes.old }
+    ensures read { IfOk result (λ read. IsReadRow read.is_canonical reference.entry source.old.remaining
+        changes.new read.end source.new.remaining) }
+    ensures err { IfErr result (λ fault. read_two_dimensional (element_pels reference.entry)
+        source.old.remaining ≡ failed fault) }
+    ensures room { HasRoom reference.entry.width changes.new }
     ensures same_end { KeepsEnd source.old source.new }
 {
     // At the first step that is not seen to be T.4's choice the row is read again, without the
     // question. That happens where the first codes of a strip stand that are not T.4's choice.
-    match read_modes::<CHOICE>(source, reference, places) {
+    match read_modes::<CANONICAL>(source, reference, changes) {
         Ok(end) => return Ok(ReadRow {
             end,
-            is_chosen: CHOICE,
+            is_canonical: CANONICAL,
         }),
         Err(RowStop::Fault(fault)) => return Err(fault),
         Err(RowStop::Other) => {}
     }
-    match read_modes::<false>(source, reference, places) {
+    match read_modes::<false>(source, reference, changes) {
         Ok(end) => Ok(ReadRow {
             end,
-            is_chosen: false,
+            is_canonical: false,
         }),
         Err(RowStop::Fault(fault)) => Err(fault),
         // No choice was asked for.
@@ -117,31 +122,31 @@ fn read_places<const CHOICE: bool>(
     }
 }
 
-/// Reads a row, and answers whether its codes are seen to be those that T.4 chooses.
+/// Reads a row, and returns whether its codes are seen to be those that T.4 chooses.
 #[inline(always)]
-fn read_row<const CHOICE: bool>(
+fn read_row<const CANONICAL: bool>(
     source: &mut BitSource,
     reference: &Row,
     row: &mut Row,
 ) -> Result<bool, RowFault>
     requires width { length reference.now ≡ length row.old }
-    ensures read { read_two_dimensional reference.now source.old.left
-        ≡ answered (λ _. row.new) result source.new.left }
+    ensures read { read_two_dimensional reference.now source.old.remaining
+        ≡ answered (λ _. row.new) result source.new.remaining }
     ensures chosen { IfOk result (λ chosen. IsTrue chosen
-        → source.old.left ≡ two_dimensional_bits reference.now row.new ++ source.new.left) }
+        → source.old.remaining ≡ two_dimensional_bits reference.now row.new ++ source.new.remaining) }
     ensures same_width { length row.new ≡ length row.old }
     ensures same_end { KeepsEnd source.old source.new }
 {
-    let reference = reference.placed();
+    let reference = reference.elements();
     let width = row.width;
-    let places = row.places.as_mut_slice();
-    match read_places::<CHOICE>(source, reference, places) {
+    let changes = row.changes.as_mut_slice();
+    match read_places::<CANONICAL>(source, reference, changes) {
         Ok(read) => {
-            row.end = close(places, read.end, width);
-            Ok(read.is_chosen)
+            row.end = put_sentinels(changes, read.end, width);
+            Ok(read.is_canonical)
         }
         Err(fault) => {
-            row.end = close(places, 1, width);
+            row.end = put_sentinels(changes, 1, width);
             Err(fault)
         }
     }
@@ -157,37 +162,37 @@ fn read_row<const CHOICE: bool>(
 /// then.
 pub fn read_2d(source: &mut BitSource, reference: &Row, row: &mut Row) -> Result<(), RowFault>
     requires width { length reference.now ≡ length row.old }
-    ensures read { read_two_dimensional reference.now source.old.left
-        ≡ answered (λ _. row.new) result source.new.left }
+    ensures read { read_two_dimensional reference.now source.old.remaining
+        ≡ answered (λ _. row.new) result source.new.remaining }
     ensures same_width { length row.new ≡ length row.old }
 
-    // The source goes on in the same bits.
+    // The source continues in the same bits.
     ensures same_end { KeepsEnd source.old source.new }
 {
     read_row::<false>(source, reference, row)?;
     Ok(())
 }
 
-/// Reads a row as `read_2d` does, and answers whether its codes are seen to be those that T.4
+/// Reads a row as `read_2d` does, and returns whether its codes are seen to be those that T.4
 /// chooses (T.4, section 4.2.1.3.3; T.6, section 2.2.4). Where they are not seen to be so, nothing
 /// is said of them.
 ///
 /// # Errors
 ///
 /// As for `read_2d`.
-pub fn read_2d_choice(
+pub fn read_2d_canonical(
     source: &mut BitSource,
     reference: &Row,
     row: &mut Row,
 ) -> Result<bool, RowFault>
     requires width { length reference.now ≡ length row.old }
-    ensures read { read_two_dimensional reference.now source.old.left
-        ≡ answered (λ _. row.new) result source.new.left }
+    ensures read { read_two_dimensional reference.now source.old.remaining
+        ≡ answered (λ _. row.new) result source.new.remaining }
     ensures chosen { IfOk result (λ chosen. IsTrue chosen
-        → source.old.left ≡ two_dimensional_bits reference.now row.new ++ source.new.left) }
+        → source.old.remaining ≡ two_dimensional_bits reference.now row.new ++ source.new.remaining) }
     ensures same_width { length row.new ≡ length row.old }
 
-    // The source goes on in the same bits.
+    // The source continues in the same bits.
     ensures same_end { KeepsEnd source.old source.new }
 {
     read_row::<true>(source, reference, row)

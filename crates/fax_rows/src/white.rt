@@ -1,5 +1,5 @@
-//! White rows after white ones, which are gone past by their few bits (ITU-T T.4, sections 4.1.1
-//! and 4.2.1.3.3).
+//! White rows after white ones, which are skipped by their few bits (ITU-T T.4, sections 4.1.1 and
+//! 4.2.1.3.3).
 ghost use Rattle.std.specs.Prelude.{◌≡◌, ◌++◌, length, false, IsTrue};
 ghost use Rattle.fax_bits.specs.views.Source.{KeepsEnd};
 ghost use Rattle.fax_rows.specs.Coded.{one_dimensional_bits, two_dimensional_bits};
@@ -12,18 +12,18 @@ use fax_bits::{BitSource, Colour};
 /// How many pels the least run has that takes two make-up codes (T.4, section 4.1.1).
 const LONG_RUN: u32 = 2560;
 
-/// Goes past a row in one-dimensional coding that is white as this one is, where its codes are next
-/// and T.4's choice, and answers whether they are seen to be (T.4, section 4.1.1). Else the source
+/// Skips a row in one-dimensional coding that is white as this one is, where its codes are next and
+/// T.4's choice, and returns whether they are seen to be (T.4, section 4.1.1). Else the source
 /// stays. It takes no memory.
 #[inline(always)]
-pub fn take_white_1d(source: &mut BitSource, white: &Row) -> bool
-    ensures row { IsTrue result → read_one_dimensional (length white.now) source.old.left
-        ≡ read white.now source.new.left }
+pub fn skip_white_1d(source: &mut BitSource, white: &Row) -> bool
+    ensures row { IsTrue result → read_one_dimensional (length white.now) source.old.remaining
+        ≡ read white.now source.new.remaining }
     ensures chosen { IsTrue result
-        → source.old.left ≡ one_dimensional_bits white.now ++ source.new.left }
-    ensures unchanged { result ≡ false → source.new.left ≡ source.old.left }
+        → source.old.remaining ≡ one_dimensional_bits white.now ++ source.new.remaining }
+    ensures unchanged { result ≡ false → source.new.remaining ≡ source.old.remaining }
 
-    // The source goes on in the same bits.
+    // The source continues in the same bits.
     ensures same_end { KeepsEnd source.old source.new }
 {
     // Nearly half of the rows of a usual page are white ones after white ones: nothing is put, and
@@ -33,21 +33,21 @@ pub fn take_white_1d(source: &mut BitSource, white: &Row) -> bool
     if !white.is_white() || white.width >= LONG_RUN {
         return false;
     }
-    source.take_run(Colour::White, white.width)
+    source.skip_run_if_next(Colour::White, white.width)
 }
 
-/// Goes past a row in two-dimensional coding that is white as its reference row is, where its code
-/// is next, and answers whether that is seen (T.4, section 4.2.1.3.3; T.6, section 2.2.4). Else the
+/// Skips a row in two-dimensional coding that is white as its reference row is, where its code is
+/// next, and returns whether that is seen (T.4, section 4.2.1.3.3; T.6, section 2.2.4). Else the
 /// source stays. It takes no memory.
 #[inline(always)]
-pub fn take_white_2d(source: &mut BitSource, reference: &Row) -> bool
-    ensures row { IsTrue result → read_two_dimensional reference.now source.old.left
-        ≡ read reference.now source.new.left }
+pub fn skip_white_2d(source: &mut BitSource, reference: &Row) -> bool
+    ensures row { IsTrue result → read_two_dimensional reference.now source.old.remaining
+        ≡ read reference.now source.new.remaining }
     ensures chosen { IsTrue result
-        → source.old.left ≡ two_dimensional_bits reference.now reference.now ++ source.new.left }
-    ensures unchanged { result ≡ false → source.new.left ≡ source.old.left }
+        → source.old.remaining ≡ two_dimensional_bits reference.now reference.now ++ source.new.remaining }
+    ensures unchanged { result ≡ false → source.new.remaining ≡ source.old.remaining }
 
-    // The source goes on in the same bits.
+    // The source continues in the same bits.
     ensures same_end { KeepsEnd source.old source.new }
 {
     crate::laws::two_dimensional_rows_are_read_back();
@@ -55,5 +55,5 @@ pub fn take_white_2d(source: &mut BitSource, reference: &Row) -> bool
         return false;
     }
     prove!(0 < reference.width);
-    source.past_ones(1) == 1
+    source.skip_ones(1) == 1
 }

@@ -4,7 +4,7 @@ use Rattle.clap.specs.Walk.{Row}
 use Rattle.fax_tool.specs.Grammar.{Text, Use, text_in}
 use Rattle.fax_tool.specs.Job.{IsCommand}
 use Rattle.fax_tool.specs.code.CommandEntries.{given_by}
-use Rattle.fax_tool.specs.declared.words.Command.{Command}
+use Rattle.fax_tool.specs.declared.args.Command.{Command}
 use Rattle.fax_tool.proofs.WordReadLemmas.{Agrees}
 
 module _ (entries : List Row) (uses : List Use) (agrees : Agrees entries uses) where

@@ -4,18 +4,18 @@ use Rattle.std.proofs.Common.{◌≡◌, ◌≢◌, ℕ, ◌≤◌, List, [], in
 use Rattle.std.specs.Prelude.{Option, IfSome}
 use Rattle.std.specs.Io.KnownBytes.{Appends}
 use Rattle.std.proofs.KnownBytes.{Appends-nil}
-use Rattle.fax_walk.specs.declared.begun.Begun.{Begun}
-use Rattle.fax_walk.specs.declared.begun.Begun.TheVariants.{At}
+use Rattle.fax_walk.specs.declared.walk_start.WalkStart.{WalkStart}
+use Rattle.fax_walk.specs.declared.walk_start.WalkStart.TheVariants.{AtCursor}
 use Rattle.fax_walk.specs.declared.end.End.{End}
 use Rattle.fax_walk.specs.laws.Tails.{BeginningsHaveOneTail, CursorsHaveOneFormTail}
-use Rattle.fax_walk.specs.Items.{begun_cursor}
+use Rattle.fax_walk.specs.Items.{start_cursor}
 use Rattle.fax_tool.specs.declared.refusal.Refusal.{Refusal}
 use Rattle.fax_tool.specs.declared.refusal.Refusal.TheVariants.{Memory, Read, Write}
-use Rattle.fax_tool.specs.declared.words.Command.{Command}
-use Rattle.fax_tool.specs.declared.words.Command.TheVariants.{List as Forms, Rows}
-use Rattle.fax_tool.specs.declared.words.Selection.{Selection}
+use Rattle.fax_tool.specs.declared.args.Command.{Command}
+use Rattle.fax_tool.specs.declared.args.Command.TheVariants.{List as Forms, Rows}
+use Rattle.fax_tool.specs.declared.args.Selection.{Selection}
 use Rattle.fax_tool.specs.Run.{Counts, Input, Output, HasWorked, IsRead, IsTextAfterMemory, IsTextOf, IsTextOfFirst}
-use Rattle.fax_tool.specs.Run.{begun_of}
+use Rattle.fax_tool.specs.Run.{origin_of}
 use Rattle.fax_tool.specs.Streams.{input_after, output_after}
 use Rattle.fax_tool.specs.Text.{PrintedLine, Printed, next_line}
 use Rattle.fax_tool.specs.code.Outcome.{HasReadReason, IsDone, IsStopped, StopsAtBeginning, StopsPrinting, StopsWith}
@@ -28,12 +28,12 @@ use Rattle.fax_tool.proofs.TextLemmas.{first_text}
 no_lines : (max : Option ℕ) → IfSome max (λ limit. 0 ≤ limit)
 no_lines max = grind arith
 
--- the text of no line: where to go on
-of_none : (are : List PrintedLine → End → Type 0) (max : Option ℕ) (begun : Begun)
+-- the text of no line: where to continue
+of_none : (are : List PrintedLine → End → Type 0) (max : Option ℕ) (origin : WalkStart)
     → ((lines : List PrintedLine) × (end : End) × are lines end)
-    → (text : List ℕ) → text ≡ next_line (At (begun_cursor begun)) → IsTextOfFirst are max begun text
-of_none are max begun (lines, end, all) text is =
-    (lines, end, all, 0, omega arith, no_lines max, is ∙ sym (first_text begun 0 lines end (omega arith)))
+    → (text : List ℕ) → text ≡ next_line (AtCursor (start_cursor origin)) → IsTextOfFirst are max origin text
+of_none are max origin (lines, end, all) text is =
+    (lines, end, all, 0, omega arith, no_lines max, is ∙ sym (first_text origin 0 lines end (omega arith)))
 
 -- the input was not read
 pub unread : (text : List ℕ) (refusal : Refusal) (input : Input) (old : Option (List ℕ)) (counts : Counts)
@@ -50,7 +50,7 @@ module _ (command : Command) (bytes : Option (List ℕ)) (taken : ℕ) (counts :
   abbrev input : Input
   input = input_after bytes taken counts
 
-  -- the input was not read, and where to go on was to be written
+  -- the input was not read, and where to continue was to be written
   stopped_first : (text : List ℕ) (refusal : Refusal)
       → ((file : List ℕ) (t : List ℕ) → t ≡ text → IsTextAfterMemory command file t)
       → StopsAtBeginning text refusal input output → IsStopped command refusal input output
@@ -67,14 +67,15 @@ module _ (command : Command) (bytes : Option (List ℕ)) (taken : ℕ) (counts :
         → IsStopped command refusal input output
     command_stops refusal stops = grind arith
 
--- rows were not read, and where to go on was to be written
+-- rows were not read, and where to continue was to be written
 pub rows_unread : BeginningsHaveOneTail → (part : Selection) (refusal : Refusal) (bytes : Option (List ℕ)) (taken : ℕ)
     (counts : Counts) (output : Output)
-    → StopsAtBeginning (next_line (At (begun_cursor (begun_of part)))) refusal (input_after bytes taken counts) output
+    → StopsAtBeginning (next_line (AtCursor (start_cursor (origin_of part)))) refusal (input_after bytes taken counts)
+    output
     → IsStopped (Rows part) refusal (input_after bytes taken counts) output
 rows_unread tails part refusal bytes taken counts output stops =
-    stopped_first (Rows part) bytes taken counts output (next_line (At (begun_cursor (begun_of part)))) refusal
-    (λ file. let one = one_rows file tails (begun_of part) in of_none _ part.max (begun_of part) (
+    stopped_first (Rows part) bytes taken counts output (next_line (AtCursor (start_cursor (origin_of part)))) refusal
+    (λ file. let one = one_rows file tails (origin_of part) in of_none _ part.max (origin_of part) (
       one.items,
       one.end,
       one.is,
@@ -83,22 +84,23 @@ rows_unread tails part refusal bytes taken counts output stops =
 -- the part's beginning was refused
 pub rows_unbegun : BeginningsHaveOneTail → (part : Selection) (refusal : Refusal) (bytes : Option (List ℕ)) (taken : ℕ)
     (counts : Counts) (output : Output) → IsRead (input_after bytes taken counts)
-    → StopsWith (next_line (At (begun_cursor (begun_of part)))) refusal output
+    → StopsWith (next_line (AtCursor (start_cursor (origin_of part)))) refusal output
     → IsStopped (Rows part) refusal (input_after bytes taken counts) output
 rows_unbegun tails part refusal bytes taken counts output read stops =
     rows_unread tails part refusal bytes taken counts output
-    (unread_for_memory (next_line (At (begun_cursor (begun_of part)))) refusal (input_after bytes taken counts) output
+    (unread_for_memory (next_line (AtCursor (start_cursor (origin_of part)))) refusal (input_after bytes taken counts)
+    output
     read stops)
 
--- pages were not read, and where to go on was to be written
+-- pages were not read, and where to continue was to be written
 pub pages_unread : CursorsHaveOneFormTail → (part : Selection) (refusal : Refusal) (bytes : Option (List ℕ)) (taken : ℕ)
     (counts : Counts) (output : Output)
-    → StopsAtBeginning (next_line (At part.cursor)) refusal (input_after bytes taken counts) output
+    → StopsAtBeginning (next_line (AtCursor part.cursor)) refusal (input_after bytes taken counts) output
     → IsStopped (Forms part) refusal (input_after bytes taken counts) output
 pages_unread tails part refusal bytes taken counts output stops =
-    stopped_first (Forms part) bytes taken counts output (next_line (At part.cursor)) refusal (λ file text is.
+    stopped_first (Forms part) bytes taken counts output (next_line (AtCursor part.cursor)) refusal (λ file text is.
     let one = one_pages file tails part.cursor in
-    of_none _ part.max (At part.cursor) (one.items, one.end, one.is) text is) stops
+    of_none _ part.max (AtCursor part.cursor) (one.items, one.end, one.is) text is) stops
 
 module _ (command : Command) (none : (file : List ℕ) → IsTextAfterMemory command file []) (bytes : Option (List ℕ))
     (taken : ℕ) (counts : Counts) (old : Option (List ℕ)) (given : Counts) (worked : HasWorked given) where

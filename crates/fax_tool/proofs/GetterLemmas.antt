@@ -4,8 +4,8 @@ use Rattle.std.specs.Prelude.{◌≢◌, IfErr, OnErr, option_map}
 use Rattle.std.specs.Result.{IsErrAnd}
 use Rattle.fax_walk.specs.declared.long_cursor.LongFault.{LongFault}
 use Rattle.fax_walk.specs.declared.long_cursor.LongFault.TheVariants.{NotACursor as NoLongCursor}
-use Rattle.fax_tool.specs.declared.words.WordsFault.{WordsFault}
-use Rattle.fax_tool.specs.declared.words.WordsFault.TheVariants.{NotACursor, Usage}
+use Rattle.fax_tool.specs.declared.args.WordsFault.{WordsFault}
+use Rattle.fax_tool.specs.declared.args.WordsFault.TheVariants.{NotACursor, Usage}
 use Rattle.fax_tool.proofs.GrammarLemmas.{names_differ}
 use Rattle.fax_tool.specs.Job.{target_of}
 use Rattle.std.specs.Borrow.{Bor}

@@ -1,4 +1,4 @@
--- Texts of numbers that are remembered.
+-- NumberCache of numbers that are remembered.
 use Rattle.std.proofs.lemmas.Grind.{common_steps}
 use Rattle.std.proofs.Common.{◌≡◌, ℕ, zero, suc, ◌+◌, ◌*◌, ◌/◌, ◌%◌, ◌<◌, ◌≤◌, ◌⊎◌, List, [], ◌∷◌}
 use Rattle.std.proofs.Common.{◌++◌, length, set, take}
@@ -10,7 +10,7 @@ use Rattle.std.proofs.Math.Seq.{take-append-add}
 use borrow.Rule.Slice.PartMut.{put_mid}
 use Rattle.fax_tool.specs.Text.{and_number}
 use Rattle.fax_tool.specs.code.Remembered.{AreNumbers, ArePairs, IsMadeAt, IsText}
-use Rattle.fax_tool.specs.declared.text.remembered.ShortText.{ShortText}
+use Rattle.fax_tool.specs.declared.text.number_cache.CachedText.{CachedText}
 
 -- what stands at a place of a list in which something was put: that, or what stood there
 put_at : {A : Type 0} (all : List A) (place i : ℕ) (new found : A) → slice_get (set all place new) i ≡ Some found
@@ -22,7 +22,7 @@ put_at (first ∷ all) (suc place) zero new found is = inr is
 put_at (first ∷ all) (suc place) (suc i) new found is = grind (arith, put_at all place i new found is)
 
 -- a text is made of a number
-pub numbers_put : (texts : List ShortText) (number : ℕ) (new : ShortText) → AreNumbers texts
+pub numbers_put : (texts : List CachedText) (number : ℕ) (new : CachedText) → AreNumbers texts
     → IsText (and_number number) new → AreNumbers (slice_set texts number new)
 numbers_put texts number new are is = λ n kept made.
     elim (put_at texts number n new kept made.0) [
@@ -31,14 +31,14 @@ numbers_put texts number new are is = λ n kept made.
     ]
 
 -- the text at a place is that of the place's two numbers
-pub pair_made : (texts : List ShortText) (place : ℕ) (kept : ShortText) → ArePairs texts → IsMadeAt texts place kept
+pub pair_made : (texts : List CachedText) (place : ℕ) (kept : CachedText) → ArePairs texts → IsMadeAt texts place kept
     → IsText (and_number (place / 64) ++ and_number (place % 64)) kept
 pair_made texts place kept are made =
     let same : 64 * (place / 64) + place % 64 ≡ place = omega arith in
     are (place / 64) (place % 64) kept (omega arith) (rw same made)
 
 -- a text is made of a place's two numbers
-pub pairs_put : (texts : List ShortText) (place : ℕ) (new : ShortText) → ArePairs texts
+pub pairs_put : (texts : List CachedText) (place : ℕ) (new : CachedText) → ArePairs texts
     → IsText (and_number (place / 64) ++ and_number (place % 64)) new → ArePairs (slice_set texts place new)
 pairs_put texts place new are is = λ f s kept low made.
     elim (put_at texts place (64 * f + s) new kept made.0) [
@@ -50,7 +50,8 @@ pairs_put texts place new are is = λ f s kept low made.
     ]
 
 -- none is made of texts that are not
-pub none_made : (count place : ℕ) (empty kept : ShortText) → empty.len ≡ 0 → IsMadeAt (replicate count empty) place kept
+pub none_made : (count place : ℕ) (empty kept : CachedText) → empty.len ≡ 0
+    → IsMadeAt (replicate count empty) place kept
     → ⊥
 none_made zero place empty kept none made = cc
 none_made (suc count) zero empty kept none made = grind arith

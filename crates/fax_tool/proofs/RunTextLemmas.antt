@@ -1,12 +1,12 @@
--- Runs that are written, and those that are due.
+-- Runs that are written, and those that are expected.
 use Rattle.std.proofs.Common.{◌≡◌, ℕ, List, [], ◌∷◌, ◌++◌, length, get_or, append_assoc, append-nil, arith}
 use Rattle.std.specs.Prelude.{flat_map}
 use Rattle.fax_tool.specs.Text.{and_number}
 
 -- one run more
-pub next_run : (text more runs left : List ℕ) (run : ℕ) → runs ≡ run ∷ left → more ≡ text ++ and_number run
-    → more ++ flat_map and_number left ≡ text ++ flat_map and_number runs
-next_run text more runs left run first is = grind (arith, append_assoc)
+pub next_run : (text more runs remaining : List ℕ) (run : ℕ) → runs ≡ run ∷ remaining → more ≡ text ++ and_number run
+    → more ++ flat_map and_number remaining ≡ text ++ flat_map and_number runs
+next_run text more runs remaining run first is = grind (arith, append_assoc)
 
 -- two texts, one after the other
 pub two_written : (s₀ s₁ s₂ a b : List ℕ) → s₁ ≡ s₀ ++ a → s₂ ≡ s₁ ++ b → s₂ ≡ s₀ ++ (a ++ b)

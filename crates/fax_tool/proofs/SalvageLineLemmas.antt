@@ -14,14 +14,14 @@ use Rattle.fax_tool.specs.declared.refusal.Refusal.TheVariants.{Memory}
 use Rattle.fax_tool.specs.Run.{Counts, HasWorked, IsRead, IsTextAfterMemory, IsTextOf, Output}
 use Rattle.fax_walk.specs.declared.salvage.SalvageItem.{SalvageItem}
 use Rattle.fax_walk.specs.laws.Salvaged.{IsSalvagedOneWay}
-use Rattle.fax_walk.specs.views.SalvageItems.{HandsOutLeft, IsNextLeft, SalvageView, item_of}
+use Rattle.fax_walk.specs.views.SalvageItems.{YieldsRemaining, IsNextLeft, SalvageView, item_of}
 use Rattle.fax_tool.specs.SalvageText.{AreLinesLeft, IsSalvageFront, IsSalvageText, line_left}
 use Rattle.fax_tool.specs.Streams.{input_after, output_after}
-use Rattle.fax_tool.specs.Text.{At, End, Printed, end_text}
+use Rattle.fax_tool.specs.Text.{AtCursor, End, Printed, end_text}
 use Rattle.fax_tool.specs.code.Outcome.{IsDone, IsStopped, StopsPrinting, end_line}
 use Rattle.fax_walk.specs.Items.{AreItems, RowItem}
 use Rattle.fax_walk.specs.Pages.{start}
-use Rattle.fax_tool.specs.declared.words.Command.TheVariants.{Salvage}
+use Rattle.fax_tool.specs.declared.args.Command.TheVariants.{Salvage}
 use Rattle.fax_tool.specs.code.Salvaging.{IsFrontOf, IsLinePut, IsOneList, texts_of}
 use Rattle.fax_tool.specs.code.Transfers.{IsGivenInPart, SendsPart}
 use Rattle.fax_tool.proofs.LineLemmas.{take_at}
@@ -136,7 +136,7 @@ module _ (bytes : Option (List ℕ)) (taken : ℕ) (counts : Counts) (file : Lis
         (given : Counts) where
       -- what is written
       abbrev whole_text : Printed
-      whole_text = record (end_text (Some end) (At start)) { output = texts_of lines ++ codes "end\n" }
+      whole_text = record (end_text (Some end) (AtCursor start)) { output = texts_of lines ++ codes "end\n" }
 
       is_text : IsSalvageText file whole_text
       is_text = record { lines = lines; are = are; rows = rows; end = end; ended = tail; is = refl }
@@ -151,8 +151,8 @@ module _ (bytes : Option (List ℕ)) (taken : ℕ) (counts : Counts) (file : Lis
           → IsDone Salvage (input_after bytes taken counts) (output_after old new given) (end_line (Some end))
       all_salvaged moved worked =
           text_done Salvage bytes taken counts file old new given whole_text (end_line (Some end)) same read is_text
-          (second_given old mid new (texts_of lines) (codes "end\n") sent moved) worked (end_is end (At start)).0
-          (end_is end (At start)).1
+          (second_given old mid new (texts_of lines) (codes "end\n") sent moved) worked (end_is end (AtCursor start)).0
+          (end_is end (AtCursor start)).1
 
 -- ---- the reader's items
 
@@ -172,7 +172,7 @@ no_line ways file =
 module _ (old new : SalvageView) (text : List ℕ) (way : IsSalvagedOneWay old.file) where
   -- all lines were collected
   pub none_left : IsNextLeft old (Ok None) new
-      → IsLinePut (AreLinesLeft old.file) old.given text (Ok false) new.given text
+      → IsLinePut (AreLinesLeft old.file) old.yielded text (Ok false) new.yielded text
   none_left next = (
     map line_left way.items,
     (way.items, way.are, refl),
@@ -181,14 +181,14 @@ module _ (old new : SalvageView) (text : List ℕ) (way : IsSalvagedOneWay old.f
   )
 
   -- the line of an item is collected
-  pub item_put : (item : SalvageItem) (new_text : List ℕ) → HandsOutLeft old item new
+  pub item_put : (item : SalvageItem) (new_text : List ℕ) → YieldsRemaining old item new
       → new_text ≡ text ++ line_left (item_of item (unwrap_or new.last []))
-      → IsLinePut (AreLinesLeft old.file) old.given text (Ok true) new.given new_text
+      → IsLinePut (AreLinesLeft old.file) old.yielded text (Ok true) new.yielded new_text
   item_put item new_text hands grown = (
     map line_left way.items,
     line_left (item_of item (unwrap_or new.last [])),
     (way.items, way.are, refl),
-    slice_get-map line_left way.items old.given ∙ ap (option_map line_left) (hands.item_is way.items way.are),
+    slice_get-map line_left way.items old.yielded ∙ ap (option_map line_left) (hands.item_is way.items way.are),
     hands.next,
     grown,
   )

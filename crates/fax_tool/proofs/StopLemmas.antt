@@ -40,9 +40,9 @@ pub stops_after : (is other : Printed → Type 0) (first more : List ℕ → Typ
     → StopsPrinting is first refusal (output_after mid new counts)
     → StopsPrinting other more refusal (output_after old new counts)
 stops_after is other first more Memory old mid new counts sent before f g stops =
-    let (text, left, moved) = stops.leaves in
+    let (text, remaining, moved) = stops.leaves in
     let all = Appends-trans old mid new sent text before moved in
-    record { reason = stops.reason; leaves = (sent ++ text, g text left, all) }
+    record { reason = stops.reason; leaves = (sent ++ text, g text remaining, all) }
 stops_after is other first more Read old mid new counts sent before f g stops = absurd stops.reason
 stops_after is other first more Write old mid new counts sent before f g stops = record {
   reason = stops.reason;
@@ -60,7 +60,7 @@ stops_after is other first more Write old mid new counts sent before f g stops =
     by_case text rest (inl (printed, holds, same)) =
         let (other_printed, is, output) = f printed holds in
         inl (other_printed, is, rw (append_assoc, same, output))
-    by_case text rest (inr left) = inr (rw append_assoc (g (text ++ rest) left))
+    by_case text rest (inr remaining) = inr (rw append_assoc (g (text ++ rest) remaining))
 
 -- a text was given in part
 pub stops_in_part : (is : Printed → Type 0) (first : List ℕ → Type 0) (old new : Option (List ℕ)) (bytes : List ℕ)

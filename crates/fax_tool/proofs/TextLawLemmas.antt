@@ -8,17 +8,17 @@ use Rattle.fax_walk.specs.laws.Salvaged.{IsSalvagedOneWay}
 use Rattle.fax_walk.specs.laws.Tails.{BeginningsHaveOneTail, CursorsHaveOneFormTail, FilesHaveOneItems}
 use Rattle.fax_tool.specs.SalvageText.{IsSalvageText, line_left}
 use Rattle.fax_tool.specs.ReportText.{IsCheckText, IsConversionText}
-use Rattle.fax_tool.specs.Run.{ArePageLines, AreRowLines, IsTextOfLines, begun_of}
-use Rattle.fax_tool.specs.Text.{Begun, At, End, PrintedLine, Printed}
-use Rattle.fax_tool.specs.declared.words.Command.TheVariants.{Check, Convert, List as Forms, Rows, Salvage, Version}
+use Rattle.fax_tool.specs.Run.{ArePageLines, AreRowLines, IsTextOfLines, origin_of}
+use Rattle.fax_tool.specs.Text.{WalkStart, AtCursor, End, PrintedLine, Printed}
+use Rattle.fax_tool.specs.declared.args.Command.TheVariants.{Check, Convert, List as Forms, Rows, Salvage, Version}
 use Rattle.fax_tool.specs.laws.OneText.{TextsAreOne}
 use Rattle.fax_tool.proofs.LineLemmas.{one_pages, one_rows}
 
 -- of one list of lines and one end there is one text
 one_of_lines : (are : List PrintedLine → End → Type 0) → IsOne are
-    → (long : Bool) (max : Option ℕ) (begun : Begun) (printed other : Printed)
-    → IsTextOfLines are long max begun printed → IsTextOfLines are long max begun other → printed ≡ other
-one_of_lines are one long max begun printed other (lines, end, first, is) (lines', end', second, is') = grind arith
+    → (long : Bool) (max : Option ℕ) (origin : WalkStart) (printed other : Printed)
+    → IsTextOfLines are long max origin printed → IsTextOfLines are long max origin other → printed ≡ other
+one_of_lines are one long max origin printed other (lines, end, first, is) (lines', end', second, is') = grind arith
 
 one_conversion : BytesAreConvertedInOneWay → (options : Options) (file : List ℕ) (printed other : Printed)
     → IsConversionText options file printed → IsConversionText options file other → printed ≡ other
@@ -50,11 +50,12 @@ one_salvage salvages files file printed other first second =
 pub texts_are_one : BeginningsHaveOneTail → CursorsHaveOneFormTail → BytesAreConvertedInOneWay
     → FilesHaveOneReport → ((file : List ℕ) → IsSalvagedOneWay file) → FilesHaveOneItems → TextsAreOne
 texts_are_one tails forms ways reports salvages files (Forms part) file printed other first second =
-    one_of_lines (ArePageLines file part.cursor) (one_pages file forms part.cursor) false part.max (At part.cursor)
+    one_of_lines (ArePageLines file part.cursor) (one_pages file forms part.cursor) false part.max (AtCursor
+    part.cursor)
     printed other first second
 texts_are_one tails forms ways reports salvages files (Rows part) file printed other first second =
-    one_of_lines (AreRowLines file (begun_of part)) (one_rows file tails (begun_of part)) part.long part.max
-    (begun_of part) printed other first second
+    one_of_lines (AreRowLines file (origin_of part)) (one_rows file tails (origin_of part)) part.long part.max
+    (origin_of part) printed other first second
 texts_are_one tails forms ways reports salvages files (Convert options) file printed other first second =
     one_conversion ways options file printed other first second
 texts_are_one tails forms ways reports salvages files Check file printed other first second =

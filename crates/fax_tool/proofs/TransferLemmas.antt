@@ -48,29 +48,30 @@ pub second_given_err : (old mid new : Option (List ℕ)) (first second : List �
 second_given_err old mid new first second counts answer given is = grind (arith, common_steps)
 
 -- zeros, of which some are left, are given from a block
-module _ (block : List ℕ) (zeros left count : ℕ) (are : block ≡ replicate (length block) 0) (few : left ≤ zeros)
-    (within : count ≤ left) (lent : count ≤ length block) where
+module _ (block : List ℕ) (zeros remaining count : ℕ) (are : block
+    ≡ replicate (length block) 0) (few : remaining ≤ zeros)
+    (within : count ≤ remaining) (lent : count ≤ length block) where
   taken : take count block ≡ replicate count 0
   taken = ap (λ (l : List ℕ). take count l) are ∙ take-replicate count (length block) 0 lent
 
-  pub zeros_more : replicate (zeros - left) 0 ++ take count block ≡ replicate (zeros - (left - count)) 0
+  pub zeros_more : replicate (zeros - remaining) 0 ++ take count block ≡ replicate (zeros - (remaining - count)) 0
   zeros_more =
-      let sum : zeros - left + count ≡ zeros - (left - count) = omega (arith, few, within) in
-      rw (taken, replicate-append-replicate {A = ℕ} (zeros - left) count 0) (ap (λ (n : ℕ). replicate n 0) sum)
+      let sum : zeros - remaining + count ≡ zeros - (remaining - count) = omega (arith, few, within) in
+      rw (taken, replicate-append-replicate {A = ℕ} (zeros - remaining) count 0) (ap (λ (n : ℕ). replicate n 0) sum)
 
-  rest : replicate zeros 0 ≡ replicate (zeros - left) 0 ++ (take count block ++ replicate (left - count) 0)
+  rest : replicate zeros 0 ≡ replicate (zeros - remaining) 0 ++ (take count block ++ replicate (remaining - count) 0)
   rest =
-      let sum : zeros - left + (count + (left - count)) ≡ zeros = omega (arith, few, within) in
-      let few : replicate count 0 ++ replicate (left - count) 0 ≡ replicate (count + (left - count)) 0 =
-      replicate-append-replicate {A = ℕ} count (left - count) 0 in
-      let all : replicate (zeros - left) 0 ++ replicate (count + (left - count)) 0 ≡ replicate zeros 0 =
-      rw (replicate-append-replicate {A = ℕ} (zeros - left) (count + (left - count)) 0)
+      let sum : zeros - remaining + (count + (remaining - count)) ≡ zeros = omega (arith, few, within) in
+      let few : replicate count 0 ++ replicate (remaining - count) 0 ≡ replicate (count + (remaining - count)) 0 =
+      replicate-append-replicate {A = ℕ} count (remaining - count) 0 in
+      let all : replicate (zeros - remaining) 0 ++ replicate (count + (remaining - count)) 0 ≡ replicate zeros 0 =
+      rw (replicate-append-replicate {A = ℕ} (zeros - remaining) (count + (remaining - count)) 0)
       (ap (λ (n : ℕ). replicate n 0) sum) in
       sym (rw (taken, few) all)
 
   pub zeros_given_in_part : (old mid new : Option (List ℕ)) (counts : Counts) (refusal : Refusal)
-      → Appends old mid (replicate (zeros - left) 0) → IsGivenInPart mid new (take count block) counts refusal
+      → Appends old mid (replicate (zeros - remaining) 0) → IsGivenInPart mid new (take count block) counts refusal
       → IsGivenInPart old new (replicate zeros 0) counts refusal
   zeros_given_in_part old mid new counts refusal given is =
-      let part = first_given_in_part mid new (take count block) (replicate (left - count) 0) counts refusal is in
-      rw rest (second_given_err old mid new (replicate (zeros - left) 0) _ counts (Err refusal) given part)
+      let part = first_given_in_part mid new (take count block) (replicate (remaining - count) 0) counts refusal is in
+      rw rest (second_given_err old mid new (replicate (zeros - remaining) 0) _ counts (Err refusal) given part)

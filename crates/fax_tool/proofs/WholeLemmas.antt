@@ -10,7 +10,7 @@ use Rattle.fax_walk.specs.declared.options.Options.{Options}
 use Rattle.fax_walk.specs.declared.options.ConvertFault.{ConvertFault}
 use Rattle.fax_walk.specs.declared.options.ConvertFault.TheVariants.{Memory as NoMemory}
 use Rattle.fax_tool.specs.declared.refusal.Refusal.{Refusal}
-use Rattle.fax_tool.specs.declared.words.Command.TheVariants.{Convert, Check, Version}
+use Rattle.fax_tool.specs.declared.args.Command.TheVariants.{Convert, Check, Version}
 use Rattle.fax_tool.specs.Run.{Counts, HasWorked, IsRead}
 use Rattle.fax_tool.specs.Streams.{input_after, no_faults, output_after}
 use Rattle.fax_tool.specs.Text.{Printed}
@@ -73,7 +73,7 @@ module _ (bytes : Option (List ℕ)) (file : List ℕ) (same : IfSome bytes (λ 
 -- an input from which nothing was read
 pub none_read : (bytes : Option (List ℕ)) (taken : ℕ) (counts : Counts) → counts ≡ no_faults → taken ≡ 0
     → IsRead (input_after bytes taken counts)
-none_read bytes taken counts none begun = grind arith
+none_read bytes taken counts none origin = grind arith
 
 module _ (bytes : Option (List ℕ)) (taken : ℕ) (counts : Counts) (read : IsRead (input_after bytes taken counts))
     (old new : Option (List ℕ)) (given : Counts) where

@@ -12,26 +12,26 @@ use Rattle.fax_tool.proofs.WordReadLemmas.{command_is_read, command_rows, unread
 use Rattle.fax_tool.proofs.ParsedRowLemmas.{first_use}
 use Rattle.fax_tool.proofs.UseLemmas.{row_of}
 use Rattle.fax_walk.specs.Pages.{IsCursor}
-use Rattle.fax_tool.specs.Text.{Begun}
+use Rattle.fax_tool.specs.Text.{WalkStart}
 use Rattle.fax_walk.specs.declared.options.Options.{Options}
 use Rattle.fax_walk.specs.declared.options.Target.TheVariants.{Mmr, Pbm}
-use Rattle.fax_walk.specs.views.Walk.{begun_place}
+use Rattle.fax_walk.specs.views.Walk.{start_place}
 use Rattle.fax_tool.specs.laws.Runs.{IsBegun}
-use Rattle.fax_tool.proofs.BeginLemmas.{IsBegunBy, inside_of, one_begun}
+use Rattle.fax_tool.proofs.BeginLemmas.{StartsBy, inside_of, one_begun}
 use Rattle.fax_tool.specs.Job.{AreOptions, Given, HasCursors, HasNoCursor, HasNoTarget, IsCommand, IsFault, IsJob}
 use Rattle.fax_tool.specs.Job.{IsJobFault, IsJobOfCommand, IsPart, is_set}
-use Rattle.fax_tool.specs.Run.{begun_of}
-use Rattle.fax_walk.specs.Items.{begun_cursor}
+use Rattle.fax_tool.specs.Run.{origin_of}
+use Rattle.fax_walk.specs.Items.{start_cursor}
 use Rattle.fax_tool.specs.code.CommandEntries.{IsNoCursor, IsNoLongCursor}
 use Rattle.fax_tool.specs.Program.{file_name}
 use Rattle.fax_tool.specs.laws.Words.{AskTheSame, WordsHaveOneAnswer}
 use Rattle.fax_walk.specs.laws.Cursors.{TextsNameOne}
-use Rattle.fax_tool.specs.declared.words.Command.{Command}
-use Rattle.fax_tool.specs.declared.words.Command.TheVariants.{Check, Convert, List as Forms, Rows, Salvage}
-use Rattle.fax_tool.specs.declared.words.Job.{Job}
-use Rattle.fax_tool.specs.declared.words.Selection.{Selection}
-use Rattle.fax_tool.specs.declared.words.WordsFault.{WordsFault}
-use Rattle.fax_tool.specs.declared.words.WordsFault.TheVariants.{NotACursor, Usage}
+use Rattle.fax_tool.specs.declared.args.Command.{Command}
+use Rattle.fax_tool.specs.declared.args.Command.TheVariants.{Check, Convert, List as Forms, Rows, Salvage}
+use Rattle.fax_tool.specs.declared.args.Job.{Job}
+use Rattle.fax_tool.specs.declared.args.Selection.{Selection}
+use Rattle.fax_tool.specs.declared.args.WordsFault.{WordsFault}
+use Rattle.fax_tool.specs.declared.args.WordsFault.TheVariants.{NotACursor, Usage}
 use Rattle.std.specs.Prelude.{option_map}
 use Rattle.std.specs.String.{string_bytes}
 
@@ -43,9 +43,9 @@ no_version words (program, is) = unread_is_no_command words (ap command_rows is)
 -- the words name one command, and give one text for a name
 same_uses : (words : List Text) (a b : Text) (xs ys : List Use) → AreOfCommand words a xs → AreOfCommand words b ys
     → ◌≡◌ {A = Text × Given} (a, text_in xs) (b, text_in ys)
-same_uses words a b xs ys left right =
+same_uses words a b xs ys remaining right =
     let both : ◌≡◌ {A = Option (Text × List Row)} (Some (a, map row_of xs)) (Some (b, map row_of ys)) =
-    sym (command_is_read words a xs left) ∙ command_is_read words b ys right in
+    sym (command_is_read words a xs remaining) ∙ command_is_read words b ys right in
     let pair : ◌≡◌ {A = Text × List Row} (a, map row_of xs) (b, map row_of ys) = cc in
     let rows = ap (λ (c : Text × List Row). c.1) pair in
     λ i. ((pair i).0, λ id. (sym (first_use id xs) ∙ ap (first_of id) rows ∙ first_use id ys) i)
@@ -68,7 +68,7 @@ usage_or_no_cursor words (inr refused) no_cursor = grind arith
 -- a text of no cursor, nor of a long one where the part may have one, names nothing that the part
 -- begins with
 no_begun : (o : Option Text) (text : Text) (part : Selection) → o ≡ Some text → HasCursors (Rows part)
-    → IsBegunBy o (begun_of part) → IsNoCursor text → (part.from ≡ None) ⊎ IsNoLongCursor text → ⊥
+    → StartsBy o (origin_of part) → IsNoCursor text → (part.from ≡ None) ⊎ IsNoLongCursor text → ⊥
 no_begun o text part given in_range begins none others = grind arith
 
 -- the cursors of a part with no place inside a strip
@@ -86,21 +86,23 @@ job_or_no_cursor words job is none =
     (subst (λ (c : Text × Given). HasNoCursor c.0 c.1) same none.command)
 
 -- the numbers of what a part begins with are in their ranges
-begun_in_range : (part : Selection) → HasCursors (Rows part) → IsBegun (begun_of part)
+begun_in_range : (part : Selection) → HasCursors (Rows part) → IsBegun (origin_of part)
 begun_in_range part in_range = grind arith
 
 -- a text names one thing to begin with
-one_named : TextsNameOne → (o : Option Text) (begun other : Begun) → IsBegun begun → IsBegun other → IsBegunBy o begun
-    → IsBegunBy o other → begun ≡ other
-one_named names o begun other in_range in_range' is is' = grind (arith, one_begun)
+one_named : TextsNameOne → (o : Option Text) (origin other : WalkStart) → IsBegun origin → IsBegun other
+    → StartsBy o origin
+    → StartsBy o other → origin ≡ other
+one_named names o origin other in_range in_range' is is' = grind (arith, one_begun)
 
 one_part : TextsNameOne → (given : Given) (long : Bool) (part other : Selection) → HasCursors (Rows part)
     → HasCursors (Rows other) → IsPart given long part → IsPart given long other → part ≡ other
 one_part names given long part other in_range in_range' first second =
-    let begun = one_named names (given (codes "cursor")) (begun_of part) (begun_of other) (begun_in_range part in_range)
+    let origin = one_named names (given (codes "cursor")) (origin_of part) (origin_of other) (begun_in_range part
+    in_range)
     (begun_in_range other in_range') first.begins second.begins in
-    let cursor = first.cursor ∙ ap begun_cursor begun ∙ sym second.cursor in
-    let from = sym (inside_of part.from part.cursor) ∙ ap begun_place begun ∙ inside_of other.from other.cursor in
+    let cursor = first.cursor ∙ ap start_cursor origin ∙ sym second.cursor in
+    let from = sym (inside_of part.from part.cursor) ∙ ap start_place origin ∙ inside_of other.from other.cursor in
     let max = first.max ∙ sym second.max in
     let flag = first.long_is ∙ sym second.long_is in
     λ i. record { cursor = cursor i; max = max i; long = flag i; from = from i }

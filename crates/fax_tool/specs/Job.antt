@@ -9,22 +9,22 @@ use Rattle.std.specs.Str.Parse.{digits_value, without_leading_plus}
 use Rattle.std.specs.String.{string_bytes}
 use Rattle.fax_bits.specs.declared.FillOrder.{FillOrder}
 use Rattle.fax_bits.specs.declared.FillOrder.TheVariants.{LsbFirst, MsbFirst}
-use Rattle.fax_tool.specs.Run.{begun_of}
-use Rattle.fax_tool.specs.Text.{At, Cursor}
-use Rattle.fax_walk.specs.Items.{begun_cursor, begun_text}
+use Rattle.fax_tool.specs.Run.{origin_of}
+use Rattle.fax_tool.specs.Text.{AtCursor, Cursor}
+use Rattle.fax_walk.specs.Items.{start_cursor, start_text}
 use Rattle.fax_walk.specs.declared.options.Options.{Options}
 use Rattle.fax_walk.specs.declared.options.Target.{Target}
 use Rattle.fax_walk.specs.declared.options.Target.TheVariants.{Mh, Mmr, Mr, Pbm}
-use Rattle.fax_walk.specs.Pages.{IsCursor, cursor_text, start, IsLongCursor, LongPlace}
+use Rattle.fax_walk.specs.Pages.{IsCursor, cursor_text, start, IsLongCursor, LongCursorValue}
 use Rattle.fax_walk.specs.Pages.{long_cursor_text}
 use Rattle.fax_tool.specs.Grammar.{AreOfCommand, AreOfNoCommand, AskForVersion, Text, Use, text_in}
-use Rattle.fax_tool.specs.declared.words.Command.{Command}
-use Rattle.fax_tool.specs.declared.words.Command.TheVariants.{Check, Convert, List as Forms, Rows}
-use Rattle.fax_tool.specs.declared.words.Command.TheVariants.{Salvage, Version}
-use Rattle.fax_tool.specs.declared.words.Job.{Job}
-use Rattle.fax_tool.specs.declared.words.Selection.{Selection}
-use Rattle.fax_tool.specs.declared.words.WordsFault.{WordsFault}
-use Rattle.fax_tool.specs.declared.words.WordsFault.TheVariants.{Memory, NotACursor, Usage}
+use Rattle.fax_tool.specs.declared.args.Command.{Command}
+use Rattle.fax_tool.specs.declared.args.Command.TheVariants.{Check, Convert, List as Forms, Rows}
+use Rattle.fax_tool.specs.declared.args.Command.TheVariants.{Salvage, Version}
+use Rattle.fax_tool.specs.declared.args.Job.{Job}
+use Rattle.fax_tool.specs.declared.args.Selection.{Selection}
+use Rattle.fax_tool.specs.declared.args.WordsFault.{WordsFault}
+use Rattle.fax_tool.specs.declared.args.WordsFault.TheVariants.{Memory, NotACursor, Usage}
 
 -- the text that is given for a name, if one is: a flag's is `true`
 abbrev pub Given : Type 0
@@ -58,9 +58,9 @@ order_by number = if unwrap_or number 1 == 2 then LsbFirst else MsbFirst
 -- what is given after `list` or `rows` gives this part, with long cursors or without: it begins
 -- with what the cursor's text names, if one is given, else with the first cursor
 pub record IsPart (given : Given) (long : Bool) (part : Selection) : Type 0 where
-  pub begins : MatchOption (given (codes "cursor")) (begun_of part ≡ At start)
-      (λ text. text ≡ begun_text (begun_of part))
-  pub cursor : part.cursor ≡ begun_cursor (begun_of part)
+  pub begins : MatchOption (given (codes "cursor")) (origin_of part ≡ AtCursor start)
+      (λ text. text ≡ start_text (origin_of part))
+  pub cursor : part.cursor ≡ start_cursor (origin_of part)
   pub max : part.max ≡ number_in (codes "max") given
   pub long_is : part.long ≡ long
 
@@ -83,7 +83,8 @@ IsCommand name given Check = name ≡ codes "check"
 IsCommand name given Salvage = name ≡ codes "salvage"
 IsCommand name given Version = ⊥
 
--- a command's cursor is one, as not each `Cursor` is, and so is its `LongPlace`, which has a run
+-- a command's cursor is one, as not each `Cursor` is, and so is its `LongCursorValue`, which has a
+-- run
 abbrev pub HasCursors : Command → Type 0
 HasCursors (Forms part) = IsCursor part.cursor
 HasCursors (Rows part) = IsCursor part.cursor × IfSome part.from IsLongCursor
@@ -115,7 +116,7 @@ pub record HasNoCursor (name : Text) (given : Given) : Type 0 where
   pub is : given (codes "cursor") ≡ Some text
   pub none : (at : Cursor) → IsCursor at → text ≢ cursor_text at
   pub command : (name ≡ codes "list") ⊎ ((name ≡ codes "rows")
-      × ((place : LongPlace) → IsLongCursor place → text ≢ long_cursor_text place))
+      × ((place : LongCursorValue) → IsLongCursor place → text ≢ long_cursor_text place))
 
 -- the words are those of a command, and this is so of its name and of what is given after it
 pub record AreRefused (words : List Text) (why : Text → Given → Type 0) : Type 0 where

@@ -5,16 +5,17 @@ use Rattle.std.specs.Prelude.{Option, Some, IfSome, codes, ⊤}
 use Rattle.std.specs.Option.{option_map_or}
 use Rattle.std.specs.Io.KnownBytes.{Appends}
 use Rattle.fax_files.specs.Directory.{max_file}
-use Rattle.fax_tool.specs.Text.{Begun, At, Inside, Cursor, End, PrintedLine, Printed}
+use Rattle.fax_tool.specs.Text.{WalkStart, AtCursor, AtLongCursor, Cursor, End, PrintedLine}
+use Rattle.fax_tool.specs.Text.{Printed}
 use Rattle.fax_tool.specs.Text.{line_of_page, line_of_row, text_of}
 use Rattle.fax_walk.specs.Pages.{IsFormTail}
 use Rattle.fax_walk.specs.Items.{IsTailFrom}
 use Rattle.fax_tool.specs.declared.refusal.Refusal.{Refusal}
 use Rattle.fax_tool.specs.declared.refusal.Refusal.TheVariants.{Memory, Read, Write}
-use Rattle.fax_tool.specs.declared.words.Command.{Command}
-use Rattle.fax_tool.specs.declared.words.Command.TheVariants.{List as Forms, Rows, Convert, Check}
-use Rattle.fax_tool.specs.declared.words.Command.TheVariants.{Salvage, Version}
-use Rattle.fax_tool.specs.declared.words.Selection.{Selection}
+use Rattle.fax_tool.specs.declared.args.Command.{Command}
+use Rattle.fax_tool.specs.declared.args.Command.TheVariants.{List as Forms, Rows, Convert, Check}
+use Rattle.fax_tool.specs.declared.args.Command.TheVariants.{Salvage, Version}
+use Rattle.fax_tool.specs.declared.args.Selection.{Selection}
 use Rattle.fax_tool.specs.ReportText.{IsCheckText, IsConversionText}
 use Rattle.fax_tool.specs.SalvageText.{IsSalvageFront, IsSalvageText}
 use Rattle.fax_tool.specs.Words.{version_text}
@@ -58,7 +59,7 @@ refusal_line Memory = codes "fault: Memory\n"
 refusal_line Read = codes "fault: Read\n"
 refusal_line Write = codes "fault: Write\n"
 
--- a refusal is answered for its reason alone
+-- a refusal is returned for its reason alone
 abbrev pub HasReason : Refusal → Input → Output → Type 0
 HasReason Memory input output = IsRead input × HasWorked output.counts
 HasReason Read input output =
@@ -66,7 +67,7 @@ HasReason Read input output =
     × HasWorked output.counts
 HasReason Write input output = IsRead input × HasFailed output.counts
 
--- these lines and this end are those of what is handed out so: the lines of its items
+-- these lines and this end are those of what is returned so: the lines of its items
 pub record AreLinesOf {A : Type 0} (line_of : A → PrintedLine) (are : List A → End → Type 0)
     (lines : List PrintedLine) (end : End) : Type 0 where
   pub items : List A
@@ -77,33 +78,34 @@ pub record AreLinesOf {A : Type 0} (line_of : A → PrintedLine) (are : List A �
 abbrev pub ArePageLines : List ℕ → Cursor → List PrintedLine → End → Type 0
 ArePageLines file at = AreLinesOf line_of_page (IsFormTail file at)
 
-abbrev pub AreRowLines : List ℕ → Begun → List PrintedLine → End → Type 0
-AreRowLines file begun = AreLinesOf line_of_row (IsTailFrom file begun)
+abbrev pub AreRowLines : List ℕ → WalkStart → List PrintedLine → End → Type 0
+AreRowLines file origin = AreLinesOf line_of_row (IsTailFrom file origin)
 
 -- the text of such lines and of their end, which began so, up to a limit, with long cursors or not
-abbrev pub IsTextOfLines : (List PrintedLine → End → Type 0) → Bool → Option ℕ → Begun → Printed
+abbrev pub IsTextOfLines : (List PrintedLine → End → Type 0) → Bool → Option ℕ → WalkStart → Printed
     → Type 0
-IsTextOfLines are long max begun printed =
+IsTextOfLines are long max origin printed =
     (lines : List PrintedLine) × (end : End) × are lines end
-    × (printed ≡ text_of long max begun lines end)
+    × (printed ≡ text_of long max origin lines end)
 
 -- what is written of such lines where memory is refused: the first of them, up to its own limit
-abbrev pub IsTextOfFirst : (List PrintedLine → End → Type 0) → Option ℕ → Begun → List ℕ → Type 0
-IsTextOfFirst are max begun output =
+abbrev pub IsTextOfFirst : (List PrintedLine → End → Type 0) → Option ℕ → WalkStart → List ℕ
+    → Type 0
+IsTextOfFirst are max origin output =
     (lines : List PrintedLine) × (end : End) × are lines end × (count : ℕ) × (count ≤ length lines)
     × IfSome max (λ limit. count ≤ limit)
-    × (output ≡ (text_of false (Some count) begun lines end).output)
+    × (output ≡ (text_of false (Some count) origin lines end).output)
 
 -- what a part begins with: the place inside a strip, where there is one, else the cursor
-abbrev pub begun_of : Selection → Begun
-begun_of part = option_map_or Inside part.from (At part.cursor)
+abbrev pub origin_of : Selection → WalkStart
+origin_of part = option_map_or AtLongCursor part.from (AtCursor part.cursor)
 
 -- what a command writes of a file; the version is the same for each
 abbrev pub IsTextOf : Command → List ℕ → Printed → Type 0
 IsTextOf (Forms part) file =
-    IsTextOfLines (ArePageLines file part.cursor) false part.max (At part.cursor)
+    IsTextOfLines (ArePageLines file part.cursor) false part.max (AtCursor part.cursor)
 IsTextOf (Rows part) file =
-    IsTextOfLines (AreRowLines file (begun_of part)) part.long part.max (begun_of part)
+    IsTextOfLines (AreRowLines file (origin_of part)) part.long part.max (origin_of part)
 IsTextOf (Convert options) file = IsConversionText options file
 IsTextOf Check file = IsCheckText file
 IsTextOf Salvage file = IsSalvageText file
@@ -113,9 +115,9 @@ IsTextOf Version file =
 -- what a command writes of a file where memory is refused
 abbrev pub IsTextAfterMemory : Command → List ℕ → List ℕ → Type 0
 IsTextAfterMemory (Forms part) file =
-    IsTextOfFirst (ArePageLines file part.cursor) part.max (At part.cursor)
+    IsTextOfFirst (ArePageLines file part.cursor) part.max (AtCursor part.cursor)
 IsTextAfterMemory (Rows part) file =
-    IsTextOfFirst (AreRowLines file (begun_of part)) part.max (begun_of part)
+    IsTextOfFirst (AreRowLines file (origin_of part)) part.max (origin_of part)
 IsTextAfterMemory Salvage file = IsSalvageFront file
 IsTextAfterMemory other file = λ output. output ≡ []
 

@@ -6,8 +6,8 @@ use Rattle.fax_rows.specs.Rows.{runs_of}
 use Rattle.fax_files.specs.FaultNames.{fault_name, fault_tag}
 use Rattle.fax_walk.specs.Items.{AreItems, RowItem}
 use Rattle.fax_walk.specs.Pages.{Cause, File, start}
-use Rattle.fax_walk.specs.Salvaged.{IsSalvaged, LeftItem, page_refused, row_found, rows_lost}
-use Rattle.fax_tool.specs.Text.{At, End, Printed, and_number, end_text, row_line_of}
+use Rattle.fax_walk.specs.Salvaged.{IsSalvaged, SalvagedItem, page_refused, row_found, rows_lost}
+use Rattle.fax_tool.specs.Text.{AtCursor, End, Printed, and_number, end_text, row_line_of}
 
 -- a blank, a fault's name, the tag of the field at fault after it, and the line's end
 abbrev pub and_fault : Cause → List ℕ
@@ -24,7 +24,7 @@ unfoldable pub refused_line : ℕ → Cause → List ℕ
 refused_line page cause = codes "lost" ++ and_number page ++ and_fault cause
 
 -- the line of what is left
-abbrev pub line_left : LeftItem → List ℕ
+abbrev pub line_left : SalvagedItem → List ℕ
 line_left (row_found page row pels) = row_line_of page row (runs_of pels)
 line_left (rows_lost page row count cause) = lost_line page row count cause
 line_left (page_refused page fault) = refused_line page (File fault)
@@ -32,7 +32,7 @@ line_left (page_refused page fault) = refused_line page (File fault)
 -- the lines of what is left of a file
 abbrev pub AreLinesLeft : List ℕ → List (List ℕ) → Type 0
 AreLinesLeft file lines =
-    (items : List LeftItem) × IsSalvaged file items × (lines ≡ map line_left items)
+    (items : List SalvagedItem) × IsSalvaged file items × (lines ≡ map line_left items)
 
 -- what is written of a file: these lines and `end`; the error line and the status are those of the
 -- end that its rows have, as `rows` writes them
@@ -42,7 +42,7 @@ pub record IsSalvageText (file : List ℕ) (printed : Printed) : Type 0 where
   pub rows : List RowItem
   pub end : End
   pub ended : AreItems file rows end
-  pub is : printed ≡ record (end_text (Some end) (At start)) {
+  pub is : printed ≡ record (end_text (Some end) (AtCursor start)) {
     output = flat_map (λ line. line) lines ++ codes "end\n";
   }
 

@@ -6,13 +6,13 @@ use Rattle.std.specs.Option.{option_map_or}
 use Rattle.fax_rows.specs.Rows.{runs_of}
 use Rattle.fax_files.specs.Page.{Coding, Mh, Mr, Mmr, fill_order_of}
 use Rattle.fax_files.specs.FaultNames.{fault_name, fault_tag}
-use Rattle.fax_walk.specs.declared.end.End.TheVariants.{Proper, Fault, Outside}
+use Rattle.fax_walk.specs.declared.end.End.TheVariants.{EndOfPages, Fault, Outside}
 use Rattle.fax_walk.specs.Pages.{Cause, PageForm, FormItem}
-use Rattle.fax_walk.specs.Items.{RowItem, begun_cursor, begun_text, cursor_after, long_after}
+use Rattle.fax_walk.specs.Items.{RowItem, start_cursor, start_text, cursor_after, long_after}
 pub use Rattle.fax_walk.specs.declared.cursor.Cursor.{Cursor}
 pub use Rattle.fax_walk.specs.declared.end.End.{End}
-pub use Rattle.fax_walk.specs.declared.begun.Begun.{Begun}
-pub use Rattle.fax_walk.specs.declared.begun.Begun.TheVariants.{At, Inside}
+pub use Rattle.fax_walk.specs.declared.walk_start.WalkStart.{WalkStart}
+pub use Rattle.fax_walk.specs.declared.walk_start.WalkStart.TheVariants.{AtCursor, AtLongCursor}
 
 -- a blank and the number
 abbrev pub and_number : ℕ → List ℕ
@@ -42,32 +42,32 @@ page_line_of page form =
     ++ and_number (if form.exchanged then 1 else 0) ++ and_number form.strips
     ++ and_fraction form.x ++ and_fraction form.y ++ and_number form.unit ++ codes "\n"
 
--- a line of the output, and what the next call of the program begins with to go on after it
+-- a line of the output, and what the next call of the program begins with to continue after it
 pub record PrintedLine : Type 0 where
   pub text : List ℕ
-  pub next : Begun
+  pub next : WalkStart
 
 -- the line of a row, after which a call begins inside a strip where it can, else with the cursor
 abbrev pub line_of_row : RowItem → PrintedLine
 line_of_row item = record {
   text = row_line_of item.page item.row (runs_of item.pels);
-  next = option_map_or Inside (long_after item) (At (cursor_after item));
+  next = option_map_or AtLongCursor (long_after item) (AtCursor (cursor_after item));
 }
 
 -- the line of a page
 abbrev pub line_of_page : FormItem → PrintedLine
 line_of_page item =
     let next : Cursor = record { page = item.page + 1; row = 0 } in
-    record { text = page_line_of item.page item.form; next = At next }
+    record { text = page_line_of item.page item.form; next = AtCursor next }
 
 -- the texts of these lines
 abbrev pub texts_of : List PrintedLine → List ℕ
 texts_of = flat_map (λ line. line.text)
 
--- what the next call begins with to go on after these lines, which began so
-abbrev pub next_after : Begun → List PrintedLine → Begun
-next_after begun [] = begun
-next_after begun (line ∷ lines) = next_after line.next lines
+-- what the next call begins with to continue after these lines, which began so
+abbrev pub next_after : WalkStart → List PrintedLine → WalkStart
+next_after origin [] = origin
+next_after origin (line ∷ lines) = next_after line.next lines
 
 -- `fault page P row R: Name`, with the tag of the field at fault after the name
 unfoldable pub fault_line : ℕ → ℕ → Cause → List ℕ
@@ -76,13 +76,13 @@ fault_line page row cause =
     ++ fault_name cause ++ option_map_or and_number (fault_tag cause) [] ++ codes "\n"
 
 -- what `next` names of what the next call begins with: with `--long` all of it, else its cursor
-abbrev pub named : Bool → Begun → Begun
-named true begun = begun
-named false begun = At (begun_cursor begun)
+abbrev pub named : Bool → WalkStart → WalkStart
+named true origin = origin
+named false origin = AtCursor (start_cursor origin)
 
--- `next` and where to go on
-abbrev pub next_line : Begun → List ℕ
-next_line begun = codes "next " ++ begun_text begun ++ codes "\n"
+-- `next` and where to continue
+abbrev pub next_line : WalkStart → List ℕ
+next_line origin = codes "next " ++ start_text origin ++ codes "\n"
 
 -- what a command writes: its output, its error line, and its status
 pub record Printed : Type 0 where
@@ -92,9 +92,9 @@ pub record Printed : Type 0 where
 
 -- what is written after the lines: at a limit `next`; at a proper end `end`; at a fault `next`, and
 -- the fault as an error; for a cursor outside the error alone
-abbrev pub end_text : Option End → Begun → Printed
+abbrev pub end_text : Option End → WalkStart → Printed
 end_text None next = record { output = next_line next; error = []; status = 0 }
-end_text (Some Proper) next = record { output = codes "end\n"; error = []; status = 0 }
+end_text (Some EndOfPages) next = record { output = codes "end\n"; error = []; status = 0 }
 end_text (Some (Fault page row cause)) next =
     record { output = next_line next; error = fault_line page row cause; status = 1 }
 end_text (Some Outside) next =
@@ -110,8 +110,8 @@ is_cut max lines = option_map_or (λ limit. nat_le limit (length lines)) max fal
 
 -- what is written of lines, which began so, and their end, up to a limit, if there is one, with
 -- long cursors or without
-abbrev pub text_of : Bool → Option ℕ → Begun → List PrintedLine → End → Printed
-text_of long max begun lines end =
-    let next = named long (next_after begun (up_to max lines)) in
+abbrev pub text_of : Bool → Option ℕ → WalkStart → List PrintedLine → End → Printed
+text_of long max origin lines end =
+    let next = named long (next_after origin (up_to max lines)) in
     let last = end_text (if is_cut max lines then None else Some end) next in
     record last { output = texts_of (up_to max lines) ++ last.output }

@@ -3,8 +3,8 @@
 use Rattle.std.specs.Prelude.{ℕ, Bool, false, List, ◌∷◌, ◌++◌, codes, if◌then◌else◌}
 use Rattle.std.specs.Str.{bytes_eq}
 use Rattle.fax_tool.specs.Grammar.{Text}
-use Rattle.fax_tool.specs.declared.words.WordsFault.{WordsFault}
-use Rattle.fax_tool.specs.declared.words.WordsFault.TheVariants.{Usage, NotACursor, Memory}
+use Rattle.fax_tool.specs.declared.args.WordsFault.{WordsFault}
+use Rattle.fax_tool.specs.declared.args.WordsFault.TheVariants.{Usage, NotACursor, Memory}
 
 -- the four lines of the usage, which has the commands that were there first
 abbrev pub usage_text : List ℕ
@@ -30,7 +30,7 @@ usage_for words = if names_salvage words then salvage_usage_text else usage_text
 
 -- the version's line
 abbrev pub version_text : List ℕ
-version_text = codes "faxpages 1.11.0\n"
+version_text = codes "faxpages 1.12.0\n"
 
 -- the text for the error stream, for these words
 abbrev pub words_text : List Text → WordsFault → List ℕ

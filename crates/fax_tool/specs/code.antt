@@ -10,4 +10,4 @@ pub mod CommandEntries
 pub mod CommandLine
 pub mod Scan
 pub mod Remembered
-pub mod Held
+pub mod InputBuffer

@@ -4,5 +4,5 @@ pub mod check;
 pub mod convert;
 pub mod print;
 pub mod printed_lines;
-pub mod remains;
+pub mod salvage_lines;
 pub mod version;

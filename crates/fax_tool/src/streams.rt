@@ -9,7 +9,7 @@ ghost use Rattle.fax_tool.specs.code.Adapters.{IsFaultOf};
 ghost use Rattle.std.specs.IoError.{error_kind};
 ghost use Rattle.fax_tool.specs.code.Adapters.{reader_of, writer_of};
 
-pub(crate) mod held;
+pub(crate) mod input_buffer;
 pub mod transfer;
 
 use std::io;
@@ -30,17 +30,17 @@ pub enum StreamFault {
 pub trait Source {
     ghost use Rattle.fax_tool.specs.Run.{Counts};
 
-    ghost left: { Self → Option (List ℕ) };
+    ghost remaining: { Self → Option (List ℕ) };
 
     ghost taken: { Self → ℕ };
 
     ghost counts: { Self → Counts };
 
-    /// Moves the next bytes to the front of the buffer, and answers how many: 0 only where the
+    /// Moves the next bytes to the front of the buffer, and returns how many: 0 only where the
     /// buffer is empty or no byte is left.
     fn take(&mut self, buffer: &mut [u8]) -> Result<usize, StreamFault>
         ensures within { IfOk result (λ n. n ≤ length buffer.new) }
-        ensures bytes { TakesBytes (left self.old) (left self.new) result buffer.new }
+        ensures bytes { TakesBytes (remaining self.old) (remaining self.new) result buffer.new }
         ensures taken { taken self.new ≡ taken_after result (taken self.old) }
         ensures counts { counts self.new ≡ counts_after result (counts self.old) };
 }
@@ -54,7 +54,7 @@ pub trait Sink {
 
     ghost counts: { Self → Counts };
 
-    /// Writes bytes from the front of the slice, and answers how many: 0 only where the slice is
+    /// Writes bytes from the front of the slice, and returns how many: 0 only where the slice is
     /// empty.
     fn give(&mut self, bytes: &[u8]) -> Result<usize, StreamFault>
         ensures within { IfOk result (λ n. n ≤ length bytes.now) }
@@ -118,7 +118,7 @@ impl<R: io::Read> FromRead<R> {
     /// The reader's bytes from here on, with counts of 0.
     pub fn new(reader: R) -> Self
         ensures reader { reader_of result ≡ reader }
-        ensures left { ⟦<FromRead<R> as Source>⟧.left result ≡ R.remaining reader }
+        ensures remaining { ⟦<FromRead<R> as Source>⟧.remaining result ≡ R.remaining reader }
         ensures taken { ⟦<FromRead<R> as Source>⟧.taken result ≡ 0 }
         ensures counts { ⟦<FromRead<R> as Source>⟧.counts result ≡ no_faults }
     {
@@ -132,8 +132,8 @@ impl<R: io::Read> FromRead<R> {
     /// Counts a file that was not opened, apart from calls that failed. The reader stays.
     pub fn count_unopened(&mut self)
         ensures reader { reader_of self.new ≡ reader_of self.old }
-        ensures left { ⟦<FromRead<R> as Source>⟧.left self.new
-            ≡ ⟦<FromRead<R> as Source>⟧.left self.old }
+        ensures remaining { ⟦<FromRead<R> as Source>⟧.remaining self.new
+            ≡ ⟦<FromRead<R> as Source>⟧.remaining self.old }
         ensures taken { ⟦<FromRead<R> as Source>⟧.taken self.new
             ≡ ⟦<FromRead<R> as Source>⟧.taken self.old }
         ensures counts { ⟦<FromRead<R> as Source>⟧.counts self.new
@@ -146,7 +146,7 @@ impl<R: io::Read> FromRead<R> {
     /// The reader, after the bytes that were taken.
     pub fn into_inner(self) -> R
         ensures reader { result ≡ reader_of self }
-        ensures left { R.remaining result ≡ ⟦<FromRead<R> as Source>⟧.left self }
+        ensures remaining { R.remaining result ≡ ⟦<FromRead<R> as Source>⟧.remaining self }
     {
         let FromRead { reader, .. } = self;
         reader
@@ -156,7 +156,7 @@ impl<R: io::Read> FromRead<R> {
 impl<R: io::Read> Source for FromRead<R> {
     ghost use Rattle.fax_tool.specs.code.Adapters.{counts_of};
 
-    ghost left = { λ s. R.remaining s.reader };
+    ghost remaining = { λ s. R.remaining s.reader };
 
     ghost taken = { λ s. s.taken };
 

@@ -2,11 +2,11 @@
 ghost use Rattle.std.specs.Prelude.{◌≡◌, ◌++◌, ◌+◌, ◌≤◌, codes};
 ghost use Rattle.arrayvec.specs.ArrayString.{array_string_len};
 
-pub mod collected;
 pub mod fault;
 pub mod lost_line;
+pub mod number_cache;
+pub mod output_buffer;
 pub mod page_line;
-pub mod remembered;
 pub mod row_line;
 
 use arrayvec::ArrayString;

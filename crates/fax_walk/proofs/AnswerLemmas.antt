@@ -4,7 +4,7 @@ use Rattle.std.proofs.Common.{arith, ◌≡◌, ℕ, List, length, Option, Some,
 use Rattle.std.proofs.Common.{◌∙◌, subst}
 use Rattle.std.proofs.Common.{inl, inr, codes}
 use Rattle.std.specs.Prelude.{flat_map}
-use Rattle.fax_bits.specs.Bits.{bits, BeginsWith}
+use Rattle.fax_bits.specs.Bits.{bits, StartsWith}
 use Rattle.fax_bits.specs.declared.Colour.{Colour}
 use Rattle.fax_files.specs.declared.Cause.{Cause}
 use Rattle.fax_files.specs.declared.PageForm.{PageForm}
@@ -17,7 +17,7 @@ use Rattle.fax_page.specs.Strip.{IsNotedAs}
 use Rattle.fax_page.specs.views.Strip.{IsStrip}
 use Rattle.fax_page.specs.laws.Strips.{ReadsStripsOneWay, StripsAreNotedInOneWay}
 use Rattle.fax_walk.specs.declared.end.End.{End}
-use Rattle.fax_walk.specs.declared.end.End.TheVariants.{Fault, Outside, Proper}
+use Rattle.fax_walk.specs.declared.end.End.TheVariants.{Fault, Outside, EndOfPages}
 use Rattle.fax_walk.specs.declared.options.ConvertFault.{ConvertFault}
 use Rattle.fax_walk.specs.declared.options.ConvertFault.TheVariants as Refused
 use Rattle.fax_walk.specs.declared.options.Options.{Options}
@@ -36,7 +36,7 @@ use Rattle.fax_walk.proofs.ReadBackLemmas.{not_both}
 -- the fault of a source whose rows end so
 abbrev source_fault : End → ConvertFault
 source_fault (Fault p r cause) = Refused.Source p r cause
-source_fault Proper = Refused.UnknownInput
+source_fault EndOfPages = Refused.UnknownInput
 source_fault Outside = Refused.UnknownInput
 
 module _ (images_once : ImagesAreReadInOneWay) (one_forms : FilesHaveOneForms) (one_items : FilesHaveOneItems) where
@@ -50,8 +50,8 @@ module _ (images_once : ImagesAreReadInOneWay) (one_forms : FilesHaveOneForms) (
       absurd (not_both bytes begins tiff)
   one_source bytes pages others (inr (tiff, forms, items, forms_are, items_are, is))
       (inr (tiff', forms', items', forms_are', items_are', is')) =
-      let same_forms = two_of (one_forms bytes) forms forms' Proper Proper forms_are forms_are' in
-      let same_items = two_of (one_items bytes) items items' Proper Proper items_are items_are' in
+      let same_forms = two_of (one_forms bytes) forms forms' EndOfPages EndOfPages forms_are forms_are' in
+      let same_items = two_of (one_items bytes) items items' EndOfPages EndOfPages items_are items_are' in
       is ∙ ap (λ l. pages_of l items) same_forms.0 ∙ ap (pages_of forms') same_items.0 ∙ sym is'
 
   no_tiff_source : (bytes : List ℕ) (items : List RowItem) (p r : ℕ) (cause : Cause) (pages : List SourcePage)
@@ -59,9 +59,9 @@ module _ (images_once : ImagesAreReadInOneWay) (one_forms : FilesHaveOneForms) (
       → AreItems bytes items (Fault p r cause) → IsSource bytes pages → ⊥
   no_tiff_source bytes items p r cause pages tiff are (inl (begins, images, are', is)) = not_both bytes begins tiff
   no_tiff_source bytes items p r cause pages tiff are (inr (tiff', forms', items', forms_are', items_are', is')) =
-      let same = two_of (one_items bytes) items items' (Fault p r cause) Proper are items_are' in cc (same.1)
+      let same = two_of (one_items bytes) items items' (Fault p r cause) EndOfPages are items_are' in cc (same.1)
 
-  no_source : (bytes : List ℕ) (pages : List SourcePage) → (BeginsWith bytes (codes "P4") → ⊥) → (IsTiff bytes → ⊥)
+  no_source : (bytes : List ℕ) (pages : List SourcePage) → (StartsWith bytes (codes "P4") → ⊥) → (IsTiff bytes → ⊥)
       → IsSource bytes pages → ⊥
   no_source bytes pages no_pbm no_tiff is = grind arith
 
@@ -119,8 +119,8 @@ module _ (images_once : ImagesAreReadInOneWay) (one_forms : FilesHaveOneForms) (
   }
 
 module _ (file : List ℕ) where
-  proper_once : (n m : ℕ) → read_page file (record { page = n; row = 0 }) ≡ Err Proper
-      → read_page file (record { page = m; row = 0 }) ≡ Err Proper → n ≡ m
+  proper_once : (n m : ℕ) → read_page file (record { page = n; row = 0 }) ≡ Err EndOfPages
+      → read_page file (record { page = m; row = 0 }) ≡ Err EndOfPages → n ≡ m
   proper_once n m first second = grind (arith, proper_after)
 
   one_end : (end : End) (pages others : ℕ) (fault other : Option (Place × Cause)) → IsReportedEnd file end pages fault
@@ -133,7 +133,7 @@ module _ (strips_once : (form : StripForm) → ReadsStripsOneWay form) (noted_on
       (fault : StripFault)
       → IsNotedAs form b rows found → IsStrip form b others (Some fault) → ⊥
   noted_or_fault form b rows others found fault noted strip =
-      let whole : IsStrip form b rows None = record { left = noted.left; lines = noted.lines } in
+      let whole : IsStrip form b rows None = record { remaining = noted.remaining; lines = noted.lines } in
       let same = (two_of (strips_once form b) rows others None (Some fault) whole strip).1 in
       cc same
 
@@ -144,18 +144,18 @@ module _ (strips_once : (form : StripForm) → ReadsStripsOneWay form) (noted_on
       let same = noted_once (strip_form form s) (bits form.order bytes) rows rows' found found' noted noted' in
       cc
   single_strip form p s (Some bytes) (goes_on notes to) (ends_as end) (rows, found, noted, is, to_is)
-      (rows', fault, left, lines, is') =
+      (rows', fault, remaining, lines, is') =
       absurd (noted_or_fault (strip_form form s) (bits form.order bytes) rows rows' found fault noted
-      (record { left = left; lines = lines }))
-  single_strip form p s (Some bytes) (ends_as end) (goes_on others place) (rows', fault, left, lines, is')
+      (record { remaining = remaining; lines = lines }))
+  single_strip form p s (Some bytes) (ends_as end) (goes_on others place) (rows', fault, remaining, lines, is')
       (rows, found, noted, is, to_is) =
       absurd (noted_or_fault (strip_form form s) (bits form.order bytes) rows rows' found fault noted
-      (record { left = left; lines = lines }))
-  single_strip form p s (Some bytes) (ends_as end) (ends_as other) (rows, fault, left, lines, is)
+      (record { remaining = remaining; lines = lines }))
+  single_strip form p s (Some bytes) (ends_as end) (ends_as other) (rows, fault, remaining, lines, is)
       (rows', fault', left', lines', is') =
       let b = bits form.order bytes in
-      let strip : IsStrip (strip_form form s) b rows (Some fault) = record { left = left; lines = lines } in
-      let strip' : IsStrip (strip_form form s) b rows' (Some fault') = record { left = left'; lines = lines' } in
+      let strip : IsStrip (strip_form form s) b rows (Some fault) = record { remaining = remaining; lines = lines } in
+      let strip' : IsStrip (strip_form form s) b rows' (Some fault') = record { remaining = left'; lines = lines' } in
       let same = two_of (strips_once (strip_form form s) b) rows rows' (Some fault) (Some fault') strip strip' in
       let faults : fault ≡ fault' = cc (same.1) in
       cc (same.0)

@@ -20,7 +20,7 @@ use Rattle.fax_files.specs.laws.TiffFiles.{joined, IsWritable, AreWritable, Hold
 use Rattle.fax_files.specs.laws.Pbm.{AreOfWidth}
 use Rattle.fax_walk.specs.declared.options.Options.{Options}
 use Rattle.fax_walk.specs.Converted.{SourcePage, written_page}
-use Rattle.fax_walk.specs.code.OpenStrips.{coded_of, rows_of_strip}
+use Rattle.fax_walk.specs.code.StripsWriter.{coded_of, rows_of_strip}
 use Rattle.fax_walk.specs.laws.WrittenFiles.{HoldsPageRows, IsWritableSource, written_pages, WrittenFilesAreWalked}
 use Rattle.fax_walk.specs.laws.WrittenFiles.{CodedFilesAreWalked}
 use Rattle.fax_walk.proofs.OpenPageLemmas.{whole_of}
@@ -55,14 +55,15 @@ module _ (law : CodedStripsAreRead) (form : PageForm) (limits : IsPageForm form)
   holds_from rows count wide s (suc n) strips =
       let before : s * in_strip < form.rows = (whole_of form limits).needed s (omega arith) in
       let some = limits.some_rows_per_strip in
-      let left = drop (s * in_strip) rows in
-      let here : length (take in_strip left) ≡ (strip_form form s).rows =
-      omega (arith, length-take in_strip left, length-drop (s * in_strip) rows) in
-      let widths = All-take (λ row. length row ≡ form.width) in_strip left
+      let remaining = drop (s * in_strip) rows in
+      let here : length (take in_strip remaining) ≡ (strip_form form s).rows =
+      omega (arith, length-take in_strip remaining, length-drop (s * in_strip) rows) in
+      let widths = All-take (λ row. length row ≡ form.width) in_strip remaining
       (All-drop (λ row. length row ≡ form.width) (s * in_strip) rows wide)
       in
-      let shape : AreRowsOf (strip_form form s) (take in_strip left) = record { count = here; widths = widths } in (
-        law (strip_form form s) k (take in_strip left)
+      let shape : AreRowsOf (strip_form form s) (take in_strip remaining) = record { count = here; widths = widths }
+      in (
+        law (strip_form form s) k (take in_strip remaining)
             (record {
               some_pels = limits.some_width;
               short_rows = omega (arith, limits.width);

@@ -13,9 +13,10 @@ use Rattle.fax_files.specs.views.Chain.{ChainState, after_answer, chain_of, due_
 use Rattle.fax_files.specs.views.Tiff.{TiffDirectory, directory_of, form_of}
 use Rattle.fax_walk.specs.declared.cursor.Cursor.{Cursor}
 use Rattle.fax_walk.specs.declared.end.End.{End}
-use Rattle.fax_walk.specs.declared.end.End.TheVariants.{Proper, Fault, Outside}
+use Rattle.fax_walk.specs.declared.end.End.TheVariants.{EndOfPages, Fault, Outside}
 use Rattle.fax_walk.specs.Pages.{chain_end, page_with_form, read_page}
-use Rattle.fax_walk.specs.code.Opening.{EndsAt, IsChainBefore, IsFilePage, IsNamed, IsNoPage, IsPageAnswer, PageDue}
+use Rattle.fax_walk.specs.code.Opening.{EndsAt, IsChainBefore, IsFilePage, IsNamed, IsNoPage, IsPageAnswer}
+use Rattle.fax_walk.specs.code.Opening.{UpcomingPage}
 use Rattle.fax_walk.specs.code.Opening.{page_with}
 use Rattle.fax_walk.proofs.OpeningLemmas.{due_some, due_none, due_fault}
 use Rattle.fax_walk.proofs.PageLawLemmas.{none_here, none_past, page_here, proper_end}
@@ -39,16 +40,16 @@ pub goes_on : (file : List ℕ) (number : ℕ) (chain new : ChainState) (answer 
     → IsChainBefore file number chain → answer ≡ due_answer chain → answer ≡ Ok (Some directory)
     → new ≡ after_answer chain answer
     → IsChainBefore file (number + 1) new
-goes_on file number chain new answer directory before due is counted = grind (arith, due_some, slice_get_within)
+goes_on file number chain new answer directory before upcoming is counted = grind (arith, due_some, slice_get_within)
 
--- a file's chain before a directory, and what it answers for it
+-- a file's chain before a directory, and what it returns for it
 module _ (file : List ℕ) (number : ℕ) (chain : ChainState) (answer : Result (Option TiffDirectory) FileFault)
-    (before : IsChainBefore file number chain) (due : answer ≡ due_answer chain) where
+    (before : IsChainBefore file number chain) (upcoming : answer ≡ due_answer chain) where
   abbrev its : ChainRead
   its = chain_of chain.tiff
 
   -- the chain has no page of a later number
-  past_chain : (at : Cursor) → slice_get its.offsets chain.given ≡ None → number ≤ at.page
+  past_chain : (at : Cursor) → slice_get its.offsets chain.yielded ≡ None → number ≤ at.page
       → read_page file at ≡ Err (chain_end number its.end at)
   past_chain at none past =
       let count : length its.offsets ≡ number = grind (arith, none_past) in
@@ -58,7 +59,7 @@ module _ (file : List ℕ) (number : ℕ) (chain : ChainState) (answer : Result 
 
   -- where the chain ends properly, and where it ends with a fault
   ended_at : (at : Cursor) → answer ≡ Ok None → number ≤ at.page → read_page file at ≡ Err (chain_end number None at)
-  ended_at at is past = let none = due_none chain answer due is in rw none.1 at (past_chain at none.0 past)
+  ended_at at is past = let none = due_none chain answer upcoming is in rw none.1 at (past_chain at none.0 past)
 
   pub none_before : (at : Cursor) → answer ≡ Ok None → number < at.page → read_page file at ≡ Err Outside
   none_before at is past = rw (outside_past number at past) at (ended_at at is (omega (arith, past)))
@@ -68,19 +69,19 @@ module _ (file : List ℕ) (number : ℕ) (chain : ChainState) (answer : Result 
       let at : Cursor = record { page = number; row = r } in rw (outside_row number at some) at
       (ended_at at is (omega arith))
 
-  pub proper_end_at : answer ≡ Ok None → read_page file (record { page = number; row = 0 }) ≡ Err Proper
+  pub proper_end_at : answer ≡ Ok None → read_page file (record { page = number; row = 0 }) ≡ Err EndOfPages
   proper_end_at is = rw (proper_end number) at (ended_at (record { page = number; row = 0 }) is (omega arith))
 
   pub fault_before_page : (at : Cursor) (fault : FileFault) → answer ≡ Err fault → number ≤ at.page
       → read_page file at ≡ Err (Fault number 0 (File fault))
   fault_before_page at fault is past =
-      let none = due_fault chain answer due fault is in rw none.1 at (past_chain at none.0 past)
+      let none = due_fault chain answer upcoming fault is in rw none.1 at (past_chain at none.0 past)
 
   -- a directory stands there
   module _ (directory : TiffDirectory) (is : answer ≡ Ok (Some directory)) where
-    there : (slice_get its.offsets chain.given ≡ Some directory.offset)
+    there : (slice_get its.offsets chain.yielded ≡ Some directory.offset)
         × (directory ≡ directory_of chain.tiff directory.offset)
-    there = due_some chain answer due directory is
+    there = due_some chain answer upcoming directory is
 
     pub same_file : directory.file ≡ chain.tiff.file
     same_file = ap (λ (d : TiffDirectory). d.file) there.1
@@ -91,7 +92,7 @@ module _ (file : List ℕ) (number : ℕ) (chain : ChainState) (answer : Result 
         let at : Cursor = record { page = number; row = r } in
         let endian_is : directory.endian ≡ chain.tiff.head.endian = ap (λ (d : TiffDirectory). d.endian) there.1 in
         let file_is : directory.file ≡ file = ap (λ (d : TiffDirectory). d.file) there.1 ∙ before.file_is in
-        let place = rw (before.given, before.file_is) at there.0 in
+        let place = rw (before.yielded, before.file_is) at there.0 in
         rw (file_is, endian_is) (page_here file chain.tiff.head before.head at directory.offset place)
 
     pub fields_refused : (refused : FileFault) → form_of directory ≡ Err refused → IsNoPage directory.file number
@@ -103,31 +104,34 @@ module _ (file : List ℕ) (number : ℕ) (chain : ChainState) (answer : Result 
     page_due new form counted form_is = record {
       here = λ r. rw form_is at (found r);
       after = let same : directory.file ≡ file = same_file ∙ before.file_is in
-          rw same (goes_on file number chain new answer directory before due is counted);
+          rw same (goes_on file number chain new answer directory before upcoming is counted);
     }
 
 -- what a cursor names, where its page stands there
-pub named_page : (file : List ℕ) (at : Cursor) (chain : ChainState) (due : PageDue) → IsChainBefore file at.page chain
-    → IsPageAnswer chain (Ok (Some due)) → IsFilePage due.page due.chain due.directory due.form → at.row ≤ due.form.rows
-    → IsNamed file at (Some due)
-named_page file at chain due before answer its within = (
+pub named_page : (file : List ℕ) (at : Cursor) (chain : ChainState) (upcoming : UpcomingPage)
+    → IsChainBefore file at.page chain
+    → IsPageAnswer chain (Ok (Some upcoming)) → IsFilePage upcoming.page upcoming.chain upcoming.directory upcoming.form
+    → at.row ≤ upcoming.form.rows
+    → IsNamed file at (Some upcoming)
+named_page file at chain upcoming before answer its within = (
   answer.1 ∙ before.file_is,
-  answer.0 ∙ before.given,
+  answer.0 ∙ before.yielded,
   within,
-  rw (answer.1 ∙ before.file_is, answer.0 ∙ before.given) at (its.here at.row),
+  rw (answer.1 ∙ before.file_is, answer.0 ∙ before.yielded) at (its.here at.row),
 )
 
-pub named_outside : (file : List ℕ) (at : Cursor) (chain : ChainState) (due : PageDue)
+pub named_outside : (file : List ℕ) (at : Cursor) (chain : ChainState) (upcoming : UpcomingPage)
     → IsChainBefore file at.page chain
-    → IsPageAnswer chain (Ok (Some due)) → IsFilePage due.page due.chain due.directory due.form → due.form.rows < at.row
+    → IsPageAnswer chain (Ok (Some upcoming)) → IsFilePage upcoming.page upcoming.chain upcoming.directory upcoming.form
+    → upcoming.form.rows < at.row
     → EndsAt file at Outside
-named_outside file at chain due before answer its above = inr (
-  page_with due.directory due.form,
-  rw (answer.1 ∙ before.file_is, answer.0 ∙ before.given) at (its.here at.row),
+named_outside file at chain upcoming before answer its above = inr (
+  page_with upcoming.directory upcoming.form,
+  rw (answer.1 ∙ before.file_is, answer.0 ∙ before.yielded) at (its.here at.row),
   above,
   refl,
 )
 
 pub named_refused : (file : List ℕ) (at : Cursor) (chain : ChainState) (end : End) → IsChainBefore file at.page chain
     → IsPageAnswer chain (Err end) → EndsAt file at end
-named_refused file at chain end before answer = inl (rw (before.file_is, before.given) at (answer at.row))
+named_refused file at chain end before answer = inl (rw (before.file_is, before.yielded) at (answer at.row))

@@ -5,9 +5,9 @@ use Rattle.fax_files.specs.declared.PageForm.{PageForm}
 use Rattle.fax_files.specs.declared.Cause.{Cause}
 use Rattle.fax_files.specs.Page.{strip_bytes}
 use Rattle.fax_walk.specs.declared.end.End.{End}
-use Rattle.fax_walk.specs.declared.end.End.TheVariants.{Fault, Outside, Proper}
+use Rattle.fax_walk.specs.declared.end.End.TheVariants.{Fault, Outside, EndOfPages}
 use Rattle.fax_walk.specs.Pages.{AreFrom, FilePage, read_page, goes_on, ends_as}
-use Rattle.fax_walk.specs.Items.{AreItems, IsInStrip, IsRow, RowItem, RowPlace, cursor_after, first_at}
+use Rattle.fax_walk.specs.Items.{AreItems, IsInStrip, IsRow, RowItem, RowPosition, cursor_after, first_at}
 use Rattle.fax_walk.specs.code.RowPlaces.{cursor_at, strip_at}
 use Rattle.fax_walk.specs.views.Walk.{EndsBefore}
 use Rattle.fax_walk.specs.laws.Printed.{ItemsEndInTheFile}
@@ -17,40 +17,40 @@ use Rattle.fax_walk.proofs.RowLawLemmas.{IsRead, after_read, its_page, read_at, 
 use Rattle.fax_walk.proofs.TailLawLemmas.{same_strip, split_at_number, strip_begin}
 
 -- the rows end properly, or at a place or after it
-abbrev pub EndsFrom : RowPlace → End → Type 0
+abbrev pub EndsFrom : RowPosition → End → Type 0
 EndsFrom at end =
-    (end ≡ Proper) ⊎ ((p r : ℕ) × (cause : Cause) × (end ≡ Fault p r cause) × (at.page ≤ p)
+    (end ≡ EndOfPages) ⊎ ((p r : ℕ) × (cause : Cause) × (end ≡ Fault p r cause) × (at.page ≤ p)
     × (at.page ≡ p → at.row ≤ r))
 
-inside : (at : RowPlace) (end : End) → EndsFrom at end → end ≡ Outside → ⊥
+inside : (at : RowPosition) (end : End) → EndsFrom at end → end ≡ Outside → ⊥
 inside at end from e = grind arith
 
--- in a strip they end at the row that is due; where there is no strip, at its first row
-in_strip : (form : PageForm) (at : RowPlace) (found : Option (List ℕ)) (end : End)
+-- in a strip they end at the next row; where there is no strip, at its first row
+in_strip : (form : PageForm) (at : RowPosition) (found : Option (List ℕ)) (end : End)
     → IsInStrip form at found (ends_as end)
     → (found ≡ None → at.row ≤ strip_at form at.row * form.rows_per_strip) → EndsFrom at end
 in_strip form at found end stop first = grind arith
 
 -- the place after an item is below it, or on a page after
-pub follows : (file : List ℕ) (at : RowPlace) (item : RowItem) (to : RowPlace) → IsRow file at (goes_on item to)
+pub follows : (file : List ℕ) (at : RowPosition) (item : RowItem) (to : RowPosition) → IsRow file at (goes_on item to)
     → (item.page ≡ at.page) × (item.row ≡ at.row) × (item.page ≤ to.page)
     × (to.page ≡ item.page → to.row ≡ item.row + 1)
 follows file at item to step = grind arith
 
 module _ (file : List ℕ) where
-  -- on a page that is due
+  -- on the next page
   on_due : (p : ℕ) → IsDue file p → (end : End) → IsRow file (first_at p 0) (ends_as end) → EndsFrom (first_at p 0) end
-  on_due p due end h = grind (arith, end_due)
+  on_due p upcoming end h = grind (arith, end_due)
 
   -- at a row of a page
-  on_page : (at : RowPlace) (here : FilePage) → read_page file (cursor_at at) ≡ Ok here
+  on_page : (at : RowPosition) (here : FilePage) → read_page file (cursor_at at) ≡ Ok here
       → (strip_bytes here.endian file here.offset (strip_at here.form at.row) ≡ None
       → at.row ≤ strip_at here.form at.row * here.form.rows_per_strip)
       → (end : End) → IsRow file at (ends_as end) → EndsFrom at end
   on_page at here page first end stop = grind (arith, in_strip)
 
   -- after an item
-  module _ (at : RowPlace) (item : RowItem) (to : RowPlace) (end : End) where
+  module _ (at : RowPosition) (item : RowItem) (to : RowPosition) (end : End) where
     after_item : IsRead file at item to → IsRow file to (ends_as end) → EndsFrom to end
     after_item read = after_read file (λ t. IsRow file t (ends_as end) → EndsFrom t end) at item to read
         (λ last. on_due (item.page + 1) (inr (cursor_after item, read.here, page_there (item.row + 1), refl)) end)
@@ -64,7 +64,7 @@ module _ (file : List ℕ) where
         page_there : (r : ℕ) → read_page file (record { page = item.page; row = r }) ≡ Ok read.here
         page_there = its_page file at item to read
 
-  ends_there : (at : RowPlace) (items : List RowItem) (end : End)
+  ends_there : (at : RowPosition) (items : List RowItem) (end : End)
       → ((e : End) → IsRow file at (ends_as e) → EndsFrom at e)
       → AreFrom (IsRow file) at items end → end ≡ Outside → ⊥
   ends_there at [] end stops is = inside at end (stops end is)
@@ -77,14 +77,14 @@ module _ (file : List ℕ) where
 pub items_end_in_the_file : ItemsEndInTheFile
 items_end_in_the_file file items end are outside = grind (arith, never_outside)
 
-not_before : (item : RowItem) (to : RowPlace) (end : End) → item.page ≤ to.page
+not_before : (item : RowItem) (to : RowPosition) (end : End) → item.page ≤ to.page
     → (to.page ≡ item.page → to.row ≡ item.row + 1)
     → EndsFrom to end → EndsBefore end (cursor_after item) → ⊥
 not_before item to end later below h before = grind arith
 
 pub tails_end_after : TailsEndAfter
-tails_end_after file begun all end n item tail there last before =
-    let row = (split_at_number file begun all end n item tail there).row in
+tails_end_after file origin all end n item tail there last before =
+    let row = (split_at_number file origin all end n item tail there).row in
     let stop : IsRow file row.to (ends_as end) = rw (drop_all (n + 1) all (omega (arith, last))) at row.rest in
     let read = read_at file row.at item row.to row.step in
     let (page, row_is, later, below) = follows file row.at item row.to row.step in

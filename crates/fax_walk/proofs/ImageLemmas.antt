@@ -5,7 +5,7 @@ use Rattle.std.proofs.Common.{take, drop, Some, None, refl, sym, ap, ◌∙◌, 
 use Rattle.std.proofs.Common.{length-append, length-drop, length-take, take-append-drop}
 use Rattle.std.specs.Prelude.{codes}
 use Rattle.std.proofs.lemmas.List.{drop-drop, map-append}
-use Rattle.fax_bits.specs.Bits.{BeginsWith}
+use Rattle.fax_bits.specs.Bits.{StartsWith}
 use Rattle.fax_bits.specs.declared.Colour.{Colour}
 use Rattle.fax_rows.specs.laws.Packed.{PackingUndoesUnpacking}
 use Rattle.fax_rows.specs.Coded.{packed_len, unpacked_row}
@@ -69,8 +69,8 @@ module _ (bytes : List ℕ) (image : Image) (rest : List ℕ) (is : IsImage byte
   pub has_bytes : 0 < length bytes
   has_bytes = omega (arith, ap (λ (l : List ℕ). length l) split)
 
-  again : (left : List ℕ) → IsImage (front ++ left) image left
-  again left = record {
+  again : (remaining : List ℕ) → IsImage (front ++ remaining) image remaining
+  again remaining = record {
     height = is.height;
     raster = is.raster;
     head = record {
@@ -85,7 +85,7 @@ module _ (bytes : List ℕ) (image : Image) (rest : List ℕ) (is : IsImage byte
       height_is = is.head.height_is;
       space_is = is.head.space_is;
       spelled = sym (regrouped (codes "P4") is.head.first_gap is.head.width_digits is.head.second_gap
-          is.head.height_digits is.raster left is.head.space);
+          is.head.height_digits is.raster remaining is.head.space);
     };
     within = is.within;
     whole = is.whole;
@@ -102,9 +102,9 @@ module _ (bytes : List ℕ) (image : Image) (rest : List ℕ) (is : IsImage byte
     images = so_far.images ++ image ∷ [];
     counted = omega (arith, so_far.counted, length-append so_far.images (image ∷ []));
     few = omega (arith, so_far.few, length-append taken front);
-    after = λ left more end are.
-        rw (append_assoc taken front left, append_assoc so_far.images (image ∷ []) more)
-        (so_far.after (front ++ left) (image ∷ more) end (left, again left, are));
+    after = λ remaining more end are.
+        rw (append_assoc taken front remaining, append_assoc so_far.images (image ∷ []) more)
+        (so_far.after (front ++ remaining) (image ∷ more) end (remaining, again remaining, are));
     written = subst (λ (l : List SourcePage). IsWrittenTo new (record { options = options; pages = l }))
         (sym (map-append page_of_image so_far.images (image ∷ []))) written;
   }
@@ -115,7 +115,7 @@ module _ (taken : List ℕ) (options : Options) (count : ℕ) (output : Output)
   abbrev pub at : Progress
   at = record { options = options; pages = map page_of_image so_far.images }
 
-  pub source : BeginsWith taken (codes "P4") → IsSource taken at.pages
+  pub source : StartsWith taken (codes "P4") → IsSource taken at.pages
   source begins = inl (
     begins,
     so_far.images,
@@ -124,13 +124,13 @@ module _ (taken : List ℕ) (options : Options) (count : ℕ) (output : Output)
   )
 
   -- and bytes after them are none, for a fault
-  pub refused_at : (left : List ℕ) (fault : PbmFault) → left ≢ [] → IsImageFault left fault
-      → BeginsWith (taken ++ left) (codes "P4")
-      → IsNotConverted (taken ++ left) options (Pbm count fault)
-  refused_at left fault some is begins = (
+  pub refused_at : (remaining : List ℕ) (fault : PbmFault) → remaining ≢ [] → IsImageFault remaining fault
+      → StartsWith (taken ++ remaining) (codes "P4")
+      → IsNotConverted (taken ++ remaining) options (Pbm count fault)
+  refused_at remaining fault some is begins = (
     begins,
     so_far.images,
-    rw (append-nil so_far.images) at (so_far.after left [] (Some fault) (inr (fault, some, is, refl))),
+    rw (append-nil so_far.images) at (so_far.after remaining [] (Some fault) (inr (fault, some, is, refl))),
     so_far.counted,
   )
 
@@ -146,7 +146,7 @@ module _ (before rest : List ℕ) (n : ℕ) (options : Options) (count : ℕ) (o
 
   -- and a fault follows
   pub stopped : (fault : PbmFault) → drop n rest ≢ [] → IsImageFault (drop n rest) fault
-      → BeginsWith (before ++ rest) (codes "P4") → IsNotConverted (before ++ rest) options (Pbm count fault)
+      → StartsWith (before ++ rest) (codes "P4") → IsNotConverted (before ++ rest) options (Pbm count fault)
   stopped fault some is begins =
       let all : (before ++ take n rest) ++ drop n rest ≡ before ++ rest =
       append_assoc before (take n rest) (drop n rest) ∙ ap (λ (l : List ℕ). before ++ l) (take-append-drop n rest) in

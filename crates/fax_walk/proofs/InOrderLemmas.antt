@@ -1,4 +1,4 @@
--- What is handed out in order: one answer at each place makes one list, and what follows an item
+-- What is returned in order: one answer at each place makes one list, and what follows an item
 -- begins after it.
 use Rattle.std.proofs.lemmas.Grind.{common_steps}
 use Rattle.std.proofs.Common.{◌≡◌, ℕ, zero, suc, ◌+◌, ◌<◌, ◌≤◌, List, [], ◌∷◌, ◌++◌, length, take, drop, Some, refl}
@@ -39,7 +39,7 @@ pub two_of : {A E : Type 0} {holds : List A → E → Type 0} → IsOne holds �
     → holds others other → (items ≡ others) × (end ≡ other)
 two_of one items others end other is is_too = grind arith
 
--- what is handed out from a place on, if something is
+-- what is returned from a place on, if something is
 pub record IsListed {S A : Type 0} (next : S → NextItem A S → Type 0) (at : S) : Type 0 where
   pub items : List A
   pub end : End
@@ -68,7 +68,7 @@ module _ {S A : Type 0} (next : S → NextItem A S → Type 0) (answers : (at : 
   listed_step at (goes_on item to) is on =
       let rest = on item to is in record { items = item ∷ rest.items; end = rest.end; is = (to, is, rest.is) }
 
-  -- where each step lowers a measure, something is handed out from each place on
+  -- where each step lowers a measure, something is returned from each place on
   pub listed_by : (measure : S → ℕ) → ((at : S) (item : A) (to : S) → next at (goes_on item to)
       → measure to < measure at) → (at : S)
       → IsListed next at
@@ -96,7 +96,7 @@ module _ {S A : Type 0} (next : S → NextItem A S → Type 0) (answers : (at : 
   one_list at listed = grind (arith, common_steps, one_from)
 
 module _ {S A : Type 0} (next : S → NextItem A S → Type 0) where
-  -- the first items of what is handed out lead to a place, and the others are handed out from there
+  -- the first items of what is returned lead to a place, and the others are returned from there
   pub split_at : (at : S) (before after : List A) (end : End) → AreFrom next at (before ++ after) end
       → (to : S) × LeadTo next at before to × AreFrom next to after end
   split_at at [] after end is = (at, refl, is)
@@ -116,7 +116,7 @@ module _ {S A : Type 0} (next : S → NextItem A S → Type 0) where
       → LeadTo next at (items ++ item ∷ []) later
   leads_on at to items item later leads step = leads_both at to items (item ∷ []) later leads (later, step, refl)
 
-  -- items that lead to a place, and then what is handed out from there
+  -- items that lead to a place, and then what is returned from there
   pub joined : (at to : S) (items after : List A) (end : End) → LeadTo next at items to → AreFrom next to after end
       → AreFrom next at (items ++ after) end
   joined at to [] after end to_is rest = subst (λ (s : S). AreFrom next s after end) to_is rest
@@ -169,7 +169,7 @@ pub first_left : {A : Type 0} (all : List A) (n : ℕ) (item : A) → slice_get 
 first_left all n item there = grind (arith, divided_at, drop_at)
 
 module _ {S A : Type 0} (next : S → NextItem A S → Type 0) where
-  -- an item, the place where it was read, and what is handed out after it
+  -- an item, the place where it was read, and what is returned after it
   pub record IsSplit (from : S) (item : A) (after : List A) (end : End) : Type 0 where
     pub front : List A
     pub at : S
@@ -178,7 +178,7 @@ module _ {S A : Type 0} (next : S → NextItem A S → Type 0) where
     pub step : next at (goes_on item to)
     pub rest : AreFrom next to after end
 
-  -- item number n after the first k, and what is handed out after it
+  -- item number n after the first k, and what is returned after it
   pub split_at_number : (from : S) (k : ℕ) (whole all : List A) (end : End) (n : ℕ) (item : A)
       → AreFrom next from whole end
       → all ≡ drop k whole → slice_get all n ≡ Some item → IsSplit from item (drop (n + 1) all) end

@@ -12,7 +12,7 @@ use Rattle.std.proofs.lemmas.List.Elements.{All-head, All-tail}
 use Rattle.std.proofs.Math.Seq.{get_or-append_right}
 use Rattle.std.proofs.lemmas.Str.Parse.{not_in_digits}
 use Rattle.std.proofs.lemmas.Str.Pattern.{IsSplitOnceResult, split_after, split_parts}
-use Rattle.fax_walk.specs.Pages.{LongPlace, runs_text, long_cursor_text}
+use Rattle.fax_walk.specs.Pages.{LongCursorValue, runs_text, long_cursor_text}
 use Rattle.fax_walk.specs.code.LongText.{and_run, number_and, IsNumberCut}
 use Rattle.fax_walk.proofs.CursorLemmas.{numerals, no_colon}
 
@@ -149,13 +149,13 @@ two : decimal 2 ≡ 50 ∷ []
 two = decimal_digit 2 (omega arith)
 
 -- a long cursor's text, number by number
-pub text_by_numbers : (place : LongPlace)
+pub text_by_numbers : (place : LongCursorValue)
     → long_cursor_text place ≡ number_and 2 (number_and place.at.page
     (number_and place.at.row (number_and place.bits (runs_text place.runs))))
 text_by_numbers place = rw two (simp append_assoc)
 
 -- a text of these numbers is a long cursor's
-pub is_long_text : (text after_version after_page after_row after_bits : List ℕ) (version : ℕ) (place : LongPlace)
+pub is_long_text : (text after_version after_page after_row after_bits : List ℕ) (version : ℕ) (place : LongCursorValue)
     → text ≡ number_and version after_version → version ≡ 2 → after_version ≡ number_and place.at.page after_page
     → after_page ≡ number_and place.at.row after_row → after_row ≡ number_and place.bits after_bits
     → after_bits ≡ runs_text place.runs → text ≡ long_cursor_text place
@@ -164,7 +164,7 @@ is_long_text text after_version after_page after_row after_bits version place wh
 
 -- the parts of a long cursor's text, put one after another
 pub put_one_after_another : {E : Type 0} (answer : Result ⊤ E) (old t₁ t₂ t₃ t₄ t₅ t₆ t₇ t₈ new : List ℕ)
-    (place : LongPlace)
+    (place : LongCursorValue)
     → t₁ ≡ old ++ decimal 2 → t₂ ≡ t₁ ++ 58 ∷ [] → t₃ ≡ t₂ ++ decimal place.at.page → t₄ ≡ t₃ ++ 58 ∷ []
     → t₅ ≡ t₄ ++ decimal place.at.row → t₆ ≡ t₅ ++ 58 ∷ [] → t₇ ≡ t₆ ++ decimal place.bits → t₈ ≡ t₇ ++ 58 ∷ []
     → OnOk answer (new ≡ t₈ ++ runs_text place.runs) → OnOk answer (new ≡ old ++ long_cursor_text place)

@@ -8,7 +8,7 @@ use Rattle.std.proofs.lemmas.List.{append-nil}
 use Rattle.std.proofs.lemmas.List.Elements.{All-head, All-tail}
 use Rattle.std.proofs.Math.Seq.{get_or-append_right}
 use Rattle.fax_walk.specs.declared.cursor.Cursor.{Cursor}
-use Rattle.fax_walk.specs.Pages.{IsCursor, cursor_text, IsLongCursor, LongPlace, long_cursor_text, runs_text}
+use Rattle.fax_walk.specs.Pages.{IsCursor, cursor_text, IsLongCursor, LongCursorValue, long_cursor_text, runs_text}
 use Rattle.fax_walk.specs.code.LongText.{and_run, number_and}
 use Rattle.fax_walk.specs.laws.Cursors.{TextsNameOne}
 use Rattle.fax_walk.proofs.CursorLemmas.{no_colon}
@@ -86,17 +86,17 @@ one_runs (n ∷ runs) (m ∷ others) some some' all all' e =
     (All-tail (λ k. k < 2 ^ 32) n runs all) (All-tail (λ k. k < 2 ^ 32) m others all') e in
     ap (λ (i : ℕ). i ∷ runs) parts.0 ∙ ap (λ (l : List ℕ). m ∷ l) parts.1
 
-one_place : (place other : LongPlace) → place.at ≡ other.at → place.bits ≡ other.bits → place.runs ≡ other.runs
+one_place : (place other : LongCursorValue) → place.at ≡ other.at → place.bits ≡ other.bits → place.runs ≡ other.runs
     → place ≡ other
 one_place place other ats bits runs = grind arith
 
 -- the texts of long cursors differ
-places : (place other : LongPlace) → IsLongCursor place → IsLongCursor other
+places : (place other : LongCursorValue) → IsLongCursor place → IsLongCursor other
     → long_cursor_text place ≡ long_cursor_text other
     → place ≡ other
 places place other is is_too e = grind (arith, text_by_numbers, before_colon, one_place, one_runs)
 
-apart : (at : Cursor) (place : LongPlace) → cursor_text at ≡ long_cursor_text place → ⊥
+apart : (at : Cursor) (place : LongCursorValue) → cursor_text at ≡ long_cursor_text place → ⊥
 apart at place e = let first : ◌≡◌ {A = ℕ} 49 50 = ap (λ (l : List ℕ). get_or l 0 0) e in omega arith
 
 pub texts_name_one : TextsNameOne

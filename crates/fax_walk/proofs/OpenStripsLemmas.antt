@@ -13,8 +13,8 @@ use Rattle.fax_page.specs.laws.Writer.{HasPut, WritesRowByRow}
 use Rattle.fax_files.specs.declared.PageForm.{PageForm}
 use Rattle.fax_files.specs.Page.{strip_form}
 use Rattle.fax_files.specs.views.Writing.{contents}
-use Rattle.fax_walk.specs.declared.open_strips.OpenStrips.{OpenStrips}
-use Rattle.fax_walk.specs.code.OpenStrips.{coded_of, AreInStrip, HasPutRows}
+use Rattle.fax_walk.specs.declared.open_strips.StripsWriter.{StripsWriter}
+use Rattle.fax_walk.specs.code.StripsWriter.{coded_of, AreInStrip, HasPutRows}
 
 -- rows after n strips do not change them
 strips_more : (form : PageForm) (k n : ℕ) (rows more : List (List Colour)) → n * form.rows_per_strip ≤ length rows
@@ -43,9 +43,9 @@ contents_next : (strips : List (Vec ℕ Global)) (bytes : Vec ℕ Global)
 contents_next [] bytes = refl
 contents_next (first ∷ strips) bytes = ap (λ (l : List (List ℕ)). first.items ∷ l) (contents_next strips bytes)
 
-module _ (writes : WritesRowByRow) (form : PageForm) (k : ℕ) (rows : List (List Colour)) (page : OpenStrips)
+module _ (writes : WritesRowByRow) (form : PageForm) (k : ℕ) (rows : List (List Colour)) (page : StripsWriter)
     (put : HasPutRows form k rows page)
-    (due : length rows < form.rows) where
+    (upcoming : length rows < form.rows) where
   abbrev pub n : ℕ
   n = length page.done.items
 

@@ -21,11 +21,11 @@ use Rattle.fax_files.specs.Directory.{max_file}
 use Rattle.fax_walk.specs.declared.options.Options.{Options}
 use Rattle.fax_walk.specs.declared.options.Target.{Target}
 use Rattle.fax_walk.specs.declared.options.Target.TheVariants.{Pbm}
-use Rattle.fax_walk.specs.declared.open_strips.OpenStrips.{OpenStrips}
-use Rattle.fax_walk.specs.declared.sheet.Sheet.{Sheet}
+use Rattle.fax_walk.specs.declared.open_strips.StripsWriter.{StripsWriter}
+use Rattle.fax_walk.specs.declared.page_size.PageSize.{PageSize}
 use Rattle.fax_files.specs.laws.TiffFiles.{TotalsAreTold}
 use Rattle.fax_walk.specs.Converted.{SourcePage, most_pages, written_page, target_bytes, IsTooLarge}
-use Rattle.fax_walk.specs.code.OpenStrips.{HasPutRows, AreInStrip}
+use Rattle.fax_walk.specs.code.StripsWriter.{HasPutRows, AreInStrip}
 use Rattle.fax_walk.specs.code.Output.{Progress, Part, no_rows, with_row, page_of, after, nothing_written, sheet_form}
 use Rattle.fax_walk.specs.code.Output.{coding_of}
 use Rattle.fax_walk.specs.code.Output.{StaysTooLarge, HasPutImages, HasPages, HasRowsOnPage, HasImageRows}
@@ -67,7 +67,7 @@ images_too_large : (target : Target) (options : Options) (pages : List SourcePag
 images_too_large target options pages is long = subst (λ t. IsTooLarge t pages (target_bytes t options pages)) (sym is)
     (inl long)
 
-module _ (packs : PackingUndoesUnpacking) (at : Progress) (sheet : Sheet) (target : at.options.target ≡ Pbm) where
+module _ (packs : PackingUndoesUnpacking) (at : Progress) (sheet : PageSize) (target : at.options.target ≡ Pbm) where
   abbrev done : List ℕ
   done = pbm_of (map (λ page. page.image) at.pages)
 
@@ -93,8 +93,8 @@ module _ (packs : PackingUndoesUnpacking) (at : Progress) (sheet : Sheet) (targe
       ) in
       images_too_large at.options.target at.options ((at.pages ++ page ∷ []) ++ more) target long
 
--- an image is begun
-pub image_begun : (at : Progress) (sheet : Sheet) (old new : List ℕ) → HasPutImages old at
+-- an image is started
+pub image_begun : (at : Progress) (sheet : PageSize) (old new : List ℕ) → HasPutImages old at
     → new ≡ old ++ head_bytes sheet.width sheet.rows
     → length new + sheet.rows * packed_len sheet.width ≤ max_file → HasImageRows new (no_rows at sheet)
 image_begun at sheet old new has new_is fits = grind (arith, append-nil)
@@ -103,23 +103,24 @@ image_begun at sheet old new has new_is fits = grind (arith, append-nil)
 pub image_row : PackingUndoesUnpacking → (part : Part) (row : List Colour) (old new : List ℕ) → HasImageRows old part
     → length part.rows < part.sheet.rows → length row ≡ part.sheet.width → new ≡ old ++ packed_row row
     → HasImageRows new (with_row part row)
-image_row packs part row old new has due width new_is =
+image_row packs part row old new has upcoming width new_is =
     let before = pbm_of (map (λ page. page.image) part.at.pages) in
     let head = head_bytes part.sheet.width part.sheet.rows in
     let rows = flat_map packed_row part.rows in
-    let some : 0 < has.left = omega (arith, has.left_is) in
-    let one : has.left ≡ has.left - 1 + 1 = omega arith in
+    let some : 0 < has.remaining = omega (arith, has.left_is) in
+    let one : has.remaining ≡ has.remaining - 1 + 1 = omega arith in
     let len : length (packed_row row) ≡ packed_len part.sheet.width = packs.packed_count row ∙ ap packed_len width in
     let size : length new ≡ length old + packed_len part.sheet.width =
     ap length new_is ∙ length-append old (packed_row row) ∙ ap (λ (n : ℕ). length old + n) len in
-    let room : has.left * packed_len part.sheet.width ≡ (has.left - 1) * packed_len part.sheet.width + packed_len
+    let room : has.remaining * packed_len part.sheet.width ≡ (has.remaining - 1) * packed_len part.sheet.width +
+    packed_len
     part.sheet.width =
     ap (λ (n : ℕ). n * packed_len part.sheet.width) one ∙ omega arith in
     record {
       target = has.target;
       bytes_are = rw (new_is, has.bytes_are, append_assoc before (head ++ rows) (packed_row row))
           (ap (λ (l : List ℕ). before ++ l) (flat_map_more packed_row head part.rows row));
-      left = has.left - 1;
+      remaining = has.remaining - 1;
       left_is = omega (arith, has.left_is, length_push part.rows row);
       fits = omega (arith, has.fits, size, room);
     }
@@ -175,13 +176,14 @@ reached_by : (form : PageForm) (k n : ℕ) (rows : List (List Colour)) (writer :
 reached_by form k n rows writer all is = grind arith
 
 -- a page whose rows were all put has all its strips
-pub all_strips : (form : PageForm) (k : ℕ) (rows : List (List Colour)) (page : OpenStrips) → HasPutRows form k rows page
+pub all_strips : (form : PageForm) (k : ℕ) (rows : List (List Colour)) (page : StripsWriter)
+    → HasPutRows form k rows page
     → length rows ≡ form.rows
     → length page.done.items ≡ form.strips
 all_strips form k rows page put all = grind (arith, reached_by)
 
 -- a page of a TIFF file whose rows were all put
-module _ (part : Part) (coding : Coding) (writer : Writing) (page : OpenStrips)
+module _ (part : Part) (coding : Coding) (writer : Writing) (page : StripsWriter)
     (has : HasRowsOnPage coding writer (Some page) part)
     (all : length part.rows ≡ part.sheet.rows) where
   abbrev options : Options

@@ -89,12 +89,12 @@ pub none_checked : (file : List ℕ) (noted : List Note) → noted ≡ [] → Ar
 none_checked file noted none = rw none (record { few = omega arith; is = nothing_checked file (before_page 0) })
 
 -- one more page was read wholly
-pub page_after : (file : List ℕ) (given rows : ℕ) (old new : List Note) (read : PageRead)
-    → ArePagesChecked file given rows old
-    → IsRestChecked file (before_page given) given old new read → read.fault ≡ None
-    → ArePagesChecked file (given + 1) (rows + read.rows)
+pub page_after : (file : List ℕ) (yielded rows : ℕ) (old new : List Note) (read : PageRead)
+    → ArePagesChecked file yielded rows old
+    → IsRestChecked file (before_page yielded) yielded old new read → read.fault ≡ None
+    → ArePagesChecked file (yielded + 1) (rows + read.rows)
     new
-page_after file given rows old new read so_far page none = grind (arith, checked_on)
+page_after file yielded rows old new read so_far page none = grind (arith, checked_on)
 
 -- the report of a file that is checked to its end
 reported : (file : List ℕ) (report : Report) (notes : List Note) (rows : ℕ) (to : CheckPlace) (end : End)
@@ -104,21 +104,23 @@ reported : (file : List ℕ) (report : Report) (notes : List Note) (rows : ℕ) 
 reported file report notes rows to end is ends notes_are rows_are end_is = grind (arith, ended_at)
 
 -- after the last page
-pub last_report : (file : List ℕ) (given : ℕ) (end : End) (report : Report)
-    → ArePagesChecked file given report.rows report.notes.items
-    → read_page file (record { page = given; row = 0 }) ≡ Err end → IsReportedEnd file end report.pages report.fault
+pub last_report : (file : List ℕ) (yielded : ℕ) (end : End) (report : Report)
+    → ArePagesChecked file yielded report.rows report.notes.items
+    → read_page file (record { page = yielded; row = 0 }) ≡ Err end → IsReportedEnd file end report.pages report.fault
     → IsReport file report
-last_report file given end report so_far at =
-    reported file report _ _ (before_page given) end so_far.is (ends_at_page file given end at) refl refl
+last_report file yielded end report so_far at =
+    reported file report _ _ (before_page yielded) end so_far.is (ends_at_page file yielded end at) refl refl
 
 -- at a fault of a page
-pub stop_report : (file : List ℕ) (given rows : ℕ) (old : List Note) (read : PageRead) (cause : Cause) (report : Report)
-    → ArePagesChecked file given rows old → IsRestChecked file (before_page given) given old report.notes.items read
+pub stop_report : (file : List ℕ) (yielded rows : ℕ) (old : List Note) (read : PageRead) (cause : Cause) (report :
+    Report)
+    → ArePagesChecked file yielded rows old → IsRestChecked file (before_page yielded) yielded old report.notes.items
+    read
     → read.fault ≡ Some cause → report.rows ≡ rows + read.rows
-    → IsReportedEnd file (Fault given read.rows cause) report.pages report.fault → IsReport file report
-stop_report file given rows old read cause report so_far page some =
-    reported file report (old ++ page.noted) (rows + read.rows) page.to (Fault given read.rows cause)
-    (checked_on file (before_page 0) (before_page given) page.to old page.noted rows read.rows so_far.is page.is)
+    → IsReportedEnd file (Fault yielded read.rows cause) report.pages report.fault → IsReport file report
+stop_report file yielded rows old read cause report so_far page some =
+    reported file report (old ++ page.noted) (rows + read.rows) page.to (Fault yielded read.rows cause)
+    (checked_on file (before_page 0) (before_page yielded) page.to old page.noted rows read.rows so_far.is page.is)
     (rw some at page.after)
     page.notes_are
 

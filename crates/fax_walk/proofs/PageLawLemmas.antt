@@ -15,7 +15,7 @@ use Rattle.fax_files.specs.Page.{page}
 use Rattle.fax_files.specs.laws.TiffFiles.{FilesHaveOneChain}
 use Rattle.fax_walk.specs.declared.cursor.Cursor.{Cursor}
 use Rattle.fax_walk.specs.declared.end.End.{End}
-use Rattle.fax_walk.specs.declared.end.End.TheVariants.{Fault, Proper}
+use Rattle.fax_walk.specs.declared.end.End.TheVariants.{Fault, EndOfPages}
 use Rattle.fax_walk.specs.Pages.{AreFrom, FormItem, FilePage, IsForm, IsFormTail, NextItem, chain_end, ends_as}
 use Rattle.fax_walk.specs.Pages.{first_page}
 use Rattle.fax_walk.specs.Pages.{goes_on, page_with_form, read_page}
@@ -37,7 +37,7 @@ first_dropped n xs = let none : n + 0 ≡ n = omega arith in rw none at (sym (ge
 pub next_dropped : (n : ℕ) (xs : List ℕ) (y : ℕ) (ys : List ℕ) → drop n xs ≡ y ∷ ys → drop (n + 1) xs ≡ ys
 next_dropped n xs y ys e = sym (drop-drop 1 n xs) ∙ ap (drop 1) e
 
-pub proper_end : (pages : ℕ) → chain_end pages None (record { page = pages; row = 0 }) ≡ Proper
+pub proper_end : (pages : ℕ) → chain_end pages None (record { page = pages; row = 0 }) ≡ EndOfPages
 proper_end pages = let test : (pages == pages) ≡ true = grind (arith, nat_tests) in rw test refl
 
 -- past the end of a list there is no element
@@ -71,15 +71,16 @@ module _ (file : List ℕ) (at : Cursor) where
   unfolding read_page
   cases_end end is = grind arith
 
-proper_past : (n pages : ℕ) (fault : Option FileFault) → Proper ≡ chain_end pages fault (record { page = n; row = 0 })
+proper_past : (n pages : ℕ) (fault : Option FileFault) → EndOfPages
+    ≡ chain_end pages fault (record { page = n; row = 0 })
     → (fault ≡ None) × (n ≡ pages)
 proper_past n pages fault e = grind (arith, nat_tests)
 
 -- the proper end is after the last page of the chain, which has no fault
-pub proper_after : (file : List ℕ) (n : ℕ) → read_page file (record { page = n; row = 0 }) ≡ Err Proper
+pub proper_after : (file : List ℕ) (n : ℕ) → read_page file (record { page = n; row = 0 }) ≡ Err EndOfPages
     → (head : Header) × (header file ≡ Ok head) × ((read_chain head file).end ≡ None)
     × (n ≡ length (read_chain head file).offsets)
-proper_after file n there = elim (cases_end file (record { page = n; row = 0 }) Proper there) [
+proper_after file n there = elim (cases_end file (record { page = n; row = 0 }) EndOfPages there) [
   | inl (fault, is_head, e) ↦ absurd cc
   | inr (inl (refused, e)) ↦ absurd cc
   | inr (inr past) ↦
@@ -119,17 +120,17 @@ one_form file p =
     (λ here (step : NextItem FormItem ℕ). step ≡ goes_on (record { page = p; form = here.form }) (p + 1)) ends_as
     (λ here. only_it (goes_on (record { page = p; form = here.form }) (p + 1)))
 
--- page p is due: it is the first one, or the one after a page
+-- page p comes next: it is the first one, or the one after a page
 abbrev pub IsDue : List ℕ → ℕ → Type 0
 IsDue file p = (p ≡ 0) ⊎ ((at : Cursor) × (here : FilePage) × (read_page file at ≡ Ok here) × (p ≡ at.page + 1))
 
--- the end in the place of a page that is due: a proper one, or a fault there
+-- the end in the place of the next page: a proper one, or a fault there
 abbrev pub EndsDue : ℕ → End → Type 0
-EndsDue p end = (end ≡ Proper) ⊎ ((cause : Cause) × (end ≡ Fault p 0 cause))
+EndsDue p end = (end ≡ EndOfPages) ⊎ ((cause : Cause) × (end ≡ Fault p 0 cause))
 
-module _ (file : List ℕ) (p : ℕ) (due : IsDue file p) (end : End) where
+module _ (file : List ℕ) (p : ℕ) (upcoming : IsDue file p) (end : End) where
   in_due : (head : Header) → header file ≡ Ok head → p ≤ length (read_chain head file).offsets
-  in_due head is_head = elim due [
+  in_due head is_head = elim upcoming [
     | inl none ↦ omega (arith, none)
     | inr (at, here, page, next) ↦
         let found = in_chain file at here page in
@@ -146,7 +147,7 @@ module _ (file : List ℕ) (p : ℕ) (due : IsDue file p) (end : End) where
 
   pub end_due : read_page file (record { page = p; row = 0 }) ≡ Err end → EndsDue p end
   end_due there = elim (cases_end file (record { page = p; row = 0 }) end there) [
-    | inl (fault, bad, e) ↦ elim due [
+    | inl (fault, bad, e) ↦ elim upcoming [
       | inl none ↦ inr (File fault, rw none e)
       | inr (at, here, page, next) ↦ let found = in_chain file at here page in absurd (cc (bad, found.is_head))
     ]
@@ -208,7 +209,7 @@ one_form_tail chains file at = by_begin (first_page file at)
     by_begin (Ok p) = one_list (IsForm file) (one_form file) p (forms_listed chains file p)
 
 module _ (file : List ℕ) where
-  -- a reader that begins at a page hands out what follows from it on
+  -- a reader that begins at a page returns what follows from it on
   from_page : (p : ℕ) (forms : List FormItem) (end : End) → (found : Result FilePage End)
       → read_page file (record { page = p; row = 0 }) ≡ found
       → IsFormTail file (record { page = p; row = 0 }) forms end

@@ -3,7 +3,7 @@ use Rattle.std.proofs.lemmas.Grind.{common_steps}
 use Rattle.std.proofs.Common.{◌≡◌, ℕ, zero, suc, ◌+◌, List, [], ◌∷◌, ◌++◌, replicate, refl, ap, ◌∙◌, arith}
 use Rattle.fax_bits.specs.declared.Colour.{Colour}
 use Rattle.fax_bits.specs.declared.Colour.TheVariants.{White, Black}
-use Rattle.fax_rows.specs.Rows.{pels_of, runs_after}
+use Rattle.fax_rows.specs.Rows.{pels_of_runs, runs_after}
 
 replicate_more : (n : ℕ) (colour : Colour) (pels : List Colour)
     → replicate (n + 1) colour ++ pels ≡ replicate n colour ++ colour ∷ pels
@@ -12,7 +12,7 @@ replicate_more (suc n) colour pels = grind (arith, common_steps)
 
 -- the pels of a row's runs are the row
 pub pels_after : (colour : Colour) (n : ℕ) (row : List Colour)
-    → pels_of colour (runs_after colour n row) ≡ replicate n colour ++ row
+    → pels_of_runs colour (runs_after colour n row) ≡ replicate n colour ++ row
 unfolding runs_after
 pels_after colour n [] = refl
 pels_after White n (White ∷ row) = pels_after White (n + 1) row ∙ replicate_more n White row

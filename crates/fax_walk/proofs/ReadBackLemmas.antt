@@ -5,14 +5,14 @@ use Rattle.std.proofs.Common.{None, Ok, refl, sym, ap, ◌∙◌, subst, arith}
 use Rattle.std.specs.Prelude.{All, codes}
 use Rattle.std.proofs.lemmas.List.{length-map, map-append}
 use Rattle.std.proofs.lemmas.List.Elements.{All-cons, All-head, All-nil, All-tail}
-use Rattle.fax_bits.specs.Bits.{BeginsWith}
+use Rattle.fax_bits.specs.Bits.{StartsWith}
 use Rattle.fax_files.specs.declared.PageForm.{PageForm}
 use Rattle.fax_files.specs.Pbm.{AreImages, Image, IsImage}
 use Rattle.fax_files.specs.laws.TiffFiles.{FormsAreWithinLimits}
 use Rattle.fax_files.specs.laws.Pbm.{AreOfWidth, AreWritableImages, IsWritableImage, WrittenImagesAreRead}
 use Rattle.fax_files.specs.views.Page.{IsPageForm}
 use Rattle.fax_walk.specs.declared.cursor.Cursor.{Cursor}
-use Rattle.fax_walk.specs.declared.end.End.TheVariants.{Proper}
+use Rattle.fax_walk.specs.declared.end.End.TheVariants.{EndOfPages}
 use Rattle.fax_walk.specs.declared.options.Options.{Options}
 use Rattle.fax_walk.specs.declared.options.Target.{Target}
 use Rattle.fax_walk.specs.declared.options.Target.TheVariants as To
@@ -21,7 +21,7 @@ use Rattle.fax_walk.specs.Items.{AreItems, RowItem}
 use Rattle.fax_rows.specs.laws.Packed.{PackingUndoesUnpacking}
 use Rattle.fax_walk.specs.Converted.{IsSource, IsTiff, IsTooLarge, SourcePage, pages_of, target_bytes}
 use Rattle.fax_walk.specs.code.Output.{form_sheet, page_of}
-use Rattle.fax_walk.specs.code.Sources.{ArePaged, AreRowsOn, FilesArePaged, pels_of}
+use Rattle.fax_walk.specs.code.Sources.{ArePaged, AreRowsOn, FilesArePaged, pels_of_runs}
 use Rattle.fax_walk.specs.views.Converting.{page_of_image}
 use Rattle.fax_walk.specs.laws.ReadBack.{AreReadBack, ConversionsAreReadBack, ConversionsKeepItems}
 use Rattle.fax_walk.specs.laws.Tails.{FilesHaveOneItems}
@@ -33,14 +33,15 @@ use Rattle.fax_walk.proofs.SourcePageLemmas.{first_page, found_page}
 
 -- a page of a form within the limits, whose rows have its width, can be written
 page_writable : (form : PageForm) (own : List RowItem) → IsPageForm form → length own ≡ form.rows
-    → AreOfWidth form.width (pels_of own)
-    → IsWritableSource (page_of (form_sheet form) (pels_of own))
+    → AreOfWidth form.width (pels_of_runs own)
+    → IsWritableSource (page_of (form_sheet form) (pels_of_runs own))
 page_writable form own limits count wide = grind (arith, length-map)
 
 -- an image that was read can be written
-image_writable : PackingUndoesUnpacking → (left : List ℕ) (image : Image) (rest : List ℕ) → IsImage left image rest
+image_writable : PackingUndoesUnpacking → (remaining : List ℕ) (image : Image) (rest : List ℕ)
+    → IsImage remaining image rest
     → IsWritableImage image
-image_writable packs left image rest is = grind (arith, raster_count, raster_widths)
+image_writable packs remaining image rest is = grind (arith, raster_count, raster_widths)
 
 image_page_writable : (image : Image) → IsWritableImage image → IsWritableSource (page_of_image image)
 image_page_writable image writable = grind (arith, common_steps)
@@ -54,7 +55,7 @@ images_writable packs bytes (image ∷ images) (rest, is, are) =
     (images_writable packs rest images are)
 
 -- a file of images that begins as one has one
-some_images : (bytes : List ℕ) (images : List Image) → BeginsWith bytes (codes "P4") → AreImages bytes images None
+some_images : (bytes : List ℕ) (images : List Image) → StartsWith bytes (codes "P4") → AreImages bytes images None
     → 1 ≤ length images
 some_images bytes images begins are = grind (arith, common_steps)
 
@@ -64,17 +65,17 @@ pages_counted (one ∷ forms) items = ap suc (pages_counted forms (drop one.form
 
 -- rows of a page with their places
 rows_numbered : (p : ℕ) (form : PageForm) (r : ℕ) (own : List RowItem) → AreRowsOn p form r own
-    → map walked own ≡ numbered p r (pels_of own)
+    → map walked own ≡ numbered p r (pels_of_runs own)
 rows_numbered p form r [] are = refl
 rows_numbered p form r (x ∷ own) are = rw (are.0, are.2, rows_numbered p form (r + 1) own are.4) refl
 
 rows_wide : (p : ℕ) (form : PageForm) (r : ℕ) (own : List RowItem) → AreRowsOn p form r own
-    → AreOfWidth form.width (pels_of own)
+    → AreOfWidth form.width (pels_of_runs own)
 rows_wide p form r [] are = tt
 rows_wide p form r (x ∷ own) are = (are.3, rows_wide p form (r + 1) own are.4)
 
 -- the rows of these pages, with their places, are the items
-items_kept : (forms : List FormItem) (p : ℕ) (items : List RowItem) → ArePaged p forms Proper items Proper
+items_kept : (forms : List FormItem) (p : ℕ) (items : List RowItem) → ArePaged p forms EndOfPages items EndOfPages
     → rows_of p (map (λ source. source.image.rows) (pages_of forms items)) ≡ map walked items
 items_kept [] p items paged = sym (ap (map walked) paged.0)
 items_kept (one ∷ forms) p items (own, others, items_are, are, inr stop) = let no = stop.2.3 in absurd cc
@@ -91,7 +92,7 @@ module _ (packs : PackingUndoesUnpacking) (paged : FilesArePaged) (within_limits
   -- the pages of forms and items that end properly can be written
   forms_writable : (file : List ℕ) → All (λ byte. byte < 256) file
       → (forms : List FormItem) (p : ℕ) (items : List RowItem)
-      → AreFrom (IsForm file) p forms Proper → ArePaged p forms Proper items Proper
+      → AreFrom (IsForm file) p forms EndOfPages → ArePaged p forms EndOfPages items EndOfPages
       → All IsWritableSource (pages_of forms items)
   forms_writable file bytes [] p items forms_are paged = All-nil IsWritableSource
   forms_writable file bytes (one ∷ forms) p items forms_are (own, others, items_are, are, inr stop) = grind arith
@@ -99,11 +100,11 @@ module _ (packs : PackingUndoesUnpacking) (paged : FilesArePaged) (within_limits
       let found = found_page file p one next step in
       let limits : IsPageForm one.form =
       subst IsPageForm (sym found.2) (page_limits file bytes (record { page = p; row = 0 }) found.0 found.1) in
-      let this : IsWritableSource (page_of (form_sheet one.form) (pels_of own)) =
+      let this : IsWritableSource (page_of (form_sheet one.form) (pels_of_runs own)) =
       page_writable one.form own limits whole.0 (rows_wide p one.form 0 own are) in
       let later = forms_writable file bytes forms (p + 1) others (rw found.3 at rest) whole.2 in
       subst (All IsWritableSource) (sym (first_page one forms items own others items_are whole.0))
-      (All-cons IsWritableSource (page_of (form_sheet one.form) (pels_of own)) (pages_of forms others) this later)
+      (All-cons IsWritableSource (page_of (form_sheet one.form) (pels_of_runs own)) (pages_of forms others) this later)
 
   source_writable : (bytes : List ℕ) → All (λ byte. byte < 256) bytes → (pages : List SourcePage) → IsSource bytes pages
       → All IsWritableSource pages × (1 ≤ length pages)
@@ -120,7 +121,7 @@ module _ (packs : PackingUndoesUnpacking) (paged : FilesArePaged) (within_limits
       let count : length pages ≡ length forms = ap (λ (l : List SourcePage). length l) pages_are
       ∙ pages_counted forms items in (
         subst (All IsWritableSource) (sym pages_are) (forms_writable bytes are_bytes forms 0 items forms_are
-            (paged bytes forms Proper items Proper forms_are items_are)),
+            (paged bytes forms EndOfPages items EndOfPages forms_are items_are)),
         omega (arith, some, count),
       )
 
@@ -149,18 +150,18 @@ conversions_are_read_back packs paged within written images bytes options output
     converted.fits
 
 -- a TIFF file does not begin as images do
-pub not_both : (bytes : List ℕ) → BeginsWith bytes (codes "P4") → IsTiff bytes → ⊥
+pub not_both : (bytes : List ℕ) → StartsWith bytes (codes "P4") → IsTiff bytes → ⊥
 not_both bytes h h' = grind arith
 
 walked_in : (target : Target) (options : Options) (pages : List SourcePage) (output : List ℕ) → target ≢ To.Pbm
     → AreReadBack target options pages output
-    → (items : List RowItem) × AreItems output items Proper
+    → (items : List RowItem) × AreItems output items EndOfPages
     × (map walked items ≡ rows_of 0 (map (λ source. source.image.rows) pages))
 walked_in target options pages output other is = grind arith
 
 module _ (paged : FilesArePaged) where
   source_kept : (bytes : List ℕ) (pages : List SourcePage) → IsTiff bytes → IsSource bytes pages
-      → (items : List RowItem) × AreItems bytes items Proper
+      → (items : List RowItem) × AreItems bytes items EndOfPages
       × (rows_of 0 (map (λ source. source.image.rows) pages) ≡ map walked items)
   source_kept bytes pages tiff h = grind (arith, items_kept)
 
@@ -173,9 +174,9 @@ module _ (paged : FilesArePaged) where
       let source = one bytes in
       let made = one output in
       let first = source.one items end items_are in
-      let first' = source.one kept.0 Proper kept.1 in
+      let first' = source.one kept.0 EndOfPages kept.1 in
       let second = made.one others other others_are in
-      let second' = made.one found.0 Proper found.1 in (
+      let second' = made.one found.0 EndOfPages found.1 in (
         ap (map walked) (second.0 ∙ sym second'.0) ∙ found.2 ∙ kept.2 ∙ ap (map walked) (first'.0 ∙ sym first.0),
         first.1 ∙ sym first'.1,
         second.1 ∙ sym second'.1,

@@ -25,19 +25,19 @@ use Rattle.fax_page.specs.laws.LeftUncounted.{LeavesUncounted}
 use Rattle.fax_page.specs.laws.Salvage.{SalvagesStripsOneWay}
 use Rattle.fax_files.specs.declared.PageForm.{PageForm}
 use Rattle.fax_files.specs.views.Tiff.{TiffDirectory}
-use Rattle.fax_walk.specs.declared.rows_left.Left.{Left}
-use Rattle.fax_walk.specs.declared.rows_left.Left.TheVariants.{Page, Strip as Strip_, Uncounted}
-use Rattle.fax_walk.specs.declared.salvage_rows.PagePart.{PagePart}
-use Rattle.fax_walk.specs.declared.salvage_rows.PagePart.TheVariants.{Found, Lost}
+use Rattle.fax_walk.specs.declared.rows_left.RowSource.{RowSource}
+use Rattle.fax_walk.specs.declared.rows_left.RowSource.TheVariants.{Page, Strip as Strip_, Uncounted}
+use Rattle.fax_walk.specs.declared.salvage_rows.SalvagedPart.{SalvagedPart}
+use Rattle.fax_walk.specs.declared.salvage_rows.SalvagedPart.TheVariants.{Found, Lost}
 use Rattle.fax_walk.specs.Pages.{Cause, Strip}
 use Rattle.fax_walk.specs.Salvaged.{PageRow, strip_row}
-use Rattle.fax_walk.specs.laws.RowsLeft.{AreLeftOneWay}
-use Rattle.fax_walk.specs.views.RowsLeft.{LeftOf, of_page, of_strip, of_uncounted, AreLeftOf}
-use Rattle.fax_walk.specs.views.RowsLeft.{IsNextPart, IsUncountedStart, PassesRows}
+use Rattle.fax_walk.specs.laws.SalvagedRows.{AreLeftOneWay}
+use Rattle.fax_walk.specs.views.SalvagedRows.{LeftOf, of_page, of_strip, of_uncounted, AreLeftOf}
+use Rattle.fax_walk.specs.views.SalvagedRows.{IsNextPart, IsUncountedStart, PassesRows}
 use Rattle.fax_walk.specs.code.SalvageItems.{AreRowsLeft, IsBeforeRows, IsPart, StaysOnPage, part_of}
 use Rattle.fax_walk.specs.code.ShownRows.{ShownState, IsShownPart}
-use Rattle.fax_walk.specs.code.RowsLeft.{AreLeftNow, IsCountOf, IsGoneOver, GoesOver, GoesOverPart, IsNextOf}
-use Rattle.fax_walk.specs.code.RowsLeft.{its_of, row_of, rows_of, last_of, view_of}
+use Rattle.fax_walk.specs.code.SalvagedRows.{AreLeftNow, IsCountOf, IsGoneOver, GoesOver, GoesOverPart, IsNextOf}
+use Rattle.fax_walk.specs.code.SalvagedRows.{its_of, row_of, rows_of, last_of, view_of}
 use Rattle.fax_walk.proofs.SalvageLawLemmas.{strips_left, one_strips}
 use Rattle.fax_walk.proofs.SalvageStepLemmas.{PassesAs, over_of, step_passes}
 
@@ -74,7 +74,7 @@ drop_past [] rest (suc n) len = absurd (omega (arith, len))
 drop_past (x ∷ done) rest zero len = absurd (omega (arith, len))
 drop_past (x ∷ done) rest (suc n) len = drop_past done rest n (omega (arith, len))
 
-module _ (old new : Left) (sound : IsGoneOver old) where
+module _ (old new : RowSource) (sound : IsGoneOver old) where
   module _ (over : List PageRow) (goes : GoesOver old over new) (same : its_of new ≡ its_of old) where
     -- what is left follows what was passed
     gone_over : rows_of new ≡ rows_of old → IsGoneOver new
@@ -100,11 +100,11 @@ module _ (old new : Left) (sound : IsGoneOver old) where
         let second : all ≡ (before.0 ++ over) ++ rest = first ∙ sym (append_assoc before.0 over rest) in
         let len : length (before.0 ++ over) ≡ row_of new =
         length-append before.0 over ∙ ap (λ n. n + length over) before.1 ∙ sym goes.next in
-        let left : drop (row_of old) all ≡ over ++ rest =
+        let remaining : drop (row_of old) all ≡ over ++ rest =
         ap (drop (row_of old)) first ∙ drop_past before.0 (over ++ rest) (row_of old) before.1 in
         let right : drop (row_of new) all ≡ rest =
         ap (drop (row_of new)) second ∙ drop_past (before.0 ++ over) rest (row_of new) len in
-        left ∙ ap (λ (l : List PageRow). over ++ l) (sym right)
+        remaining ∙ ap (λ (l : List PageRow). over ++ l) (sym right)
 
     passes : (one : AreLeftOneWay (its_of old)) → (rest : List PageRow) → AreLeftNow new rest
         → rows_of new ≡ rows_of old → PassesRows (view_of old) over (view_of new)
@@ -116,13 +116,13 @@ module _ (old new : Left) (sound : IsGoneOver old) where
   all_passed one goes none all are = grind (arith, append-nil)
 
   -- what a call for the next rows leaves
-  pub next_gone : (part : Option PagePart) → IsNextOf old part new → IsGoneOver new
+  pub next_gone : (part : Option SalvagedPart) → IsNextOf old part new → IsGoneOver new
   next_gone None next = gone_over [] next.over.0 next.same_its next.same_rows
   next_gone (Some Found) next = gone_over (Ok (last_of new) ∷ []) next.over next.same_its next.same_rows
   next_gone (Some (Lost rows cause)) next = grind (arith, gone_over)
 
   -- and answers
-  pub next_seen : (one : AreLeftOneWay (its_of old)) → (part : Option PagePart) → IsNextOf old part new
+  pub next_seen : (one : AreLeftOneWay (its_of old)) → (part : Option SalvagedPart) → IsNextOf old part new
       → IsNextPart (view_of old) part (view_of new)
   next_seen one None next = grind (arith, passes, all_passed)
   next_seen one (Some Found) next = record {
@@ -134,7 +134,7 @@ module _ (old new : Left) (sound : IsGoneOver old) where
   next_seen one (Some (Lost rows cause)) next = grind (arith, passes)
 
 -- what a call for the next rows of a page answers
-pub page_next : (old new : ShownState) (part : Option PagePart) → IsShownPart old part new
+pub page_next : (old new : ShownState) (part : Option SalvagedPart) → IsShownPart old part new
     → (rows : List PageRow) × AreRowsLeft new.rows rows → IsNextOf (Page old) part (Page new)
 page_next old new part its rest = record {
   same_its = same_page old new stays;
@@ -144,7 +144,7 @@ page_next old new part its rest = record {
   rest = rest;
 }
   where
-    stays_over : (part : Option PagePart) → IsPart old.rows part new.rows → StaysOnPage old.rows new.rows
+    stays_over : (part : Option SalvagedPart) → IsPart old.rows part new.rows → StaysOnPage old.rows new.rows
     stays_over part is = grind arith
 
     stays : StaysOnPage old.rows new.rows
@@ -153,12 +153,12 @@ page_next old new part its rest = record {
     same_page : (old new : ShownState) → StaysOnPage old.rows new.rows → its_of (Page new) ≡ its_of (Page old)
     same_page old new stays = rw (stays.0, stays.1) refl
 
-    over_page : (part : Option PagePart) → IsShownPart old part new → GoesOverPart (Page old) part (Page new)
+    over_page : (part : Option SalvagedPart) → IsShownPart old part new → GoesOverPart (Page old) part (Page new)
     over_page None (is, shown) = grind arith
     over_page (Some Found) (is, shown) = record {
       next = is.1;
       within = is.2;
-      followed = λ rows left. rw shown (is.0.followed rows left);
+      followed = λ rows remaining. rw shown (is.0.followed rows remaining);
     }
     over_page (Some (Lost rows cause)) (is, shown) = grind (arith, length-replicate)
 
@@ -183,41 +183,41 @@ module _ (salvages : SalvagesStripsOneWay) (old new : SalvageState) (bytes : Bor
   -- there is something left
   rest_of_strip : new.row ≤ new.form.rows → (rows : List PageRow) × AreLeftNow (Strip_ new bytes) rows
   rest_of_strip within =
-      let own = salvages new.form new.row new.before new.reference new.due within in
+      let own = salvages new.form new.row new.before new.reference new.upcoming within in
       (map strip_row own.rows, (own.rows, own.are, refl))
 
   pub strip_next : (salvaged : Salvaged) → IsSalvageStep old (Some salvaged) new
       → IsNextOf (Strip_ old bytes) (Some (part_of salvaged true)) (Strip_ new bytes)
   strip_next salvaged step = grind (arith, passes_strip, over_strip, rest_of_strip)
 
--- what a call for the next rows answers, of those that nobody counted
+-- what a call for the next rows answers, of those of unknown number
 module _ (leaves : LeavesUncounted) (old new : UncountedState) (bytes : Bor (List ℕ)) (count : ℕ)
     (sound : IsGoneOver (Uncounted old bytes count)) where
-  abbrev OldLeft : Left
+  abbrev OldLeft : RowSource
   OldLeft = Uncounted old bytes count
 
-  abbrev NewLeft : Left
+  abbrev NewLeft : RowSource
   NewLeft = Uncounted new bytes count
 
   -- there is something left
   rest_left : new.row ≤ new.strip.form.rows → (rows : List PageRow) × AreLeftNow NewLeft rows
   rest_left within = by_over new.over
       (λ fault. ([], Fault fault, (refl, refl)))
-      (let own = leaves.one new.strip.form new.row new.strip.before new.strip.reference new.strip.due within in
+      (let own = leaves.one new.strip.form new.row new.strip.before new.strip.reference new.strip.upcoming within in
       (own.rows, own.end, own.are))
     where
       Left_ : Option StripFault → Type 0
       Left_ over =
           (own : List SalvagedRow) × (end : RowsEnd)
           × MatchOption over
-          (AreLeftUncounted new.strip.form new.row new.strip.before new.strip.reference new.strip.due own end)
+          (AreLeftUncounted new.strip.form new.row new.strip.before new.strip.reference new.strip.upcoming own end)
           (λ fault. (own ≡ []) × (end ≡ Fault fault))
 
       by_over : (over : Option StripFault) → ((fault : StripFault) → Left_ (Some fault)) → Left_ None
           → (rows : List PageRow)
           × ((own : List SalvagedRow) × (end : RowsEnd)
           × MatchOption over
-          (AreLeftUncounted new.strip.form new.row new.strip.before new.strip.reference new.strip.due own end)
+          (AreLeftUncounted new.strip.form new.row new.strip.before new.strip.reference new.strip.upcoming own end)
           (λ fault. (own ≡ []) × (end ≡ Fault fault))
           × (rows ≡ map strip_row own))
       by_over None over none = (map strip_row none.0, (none.0, none.1, none.2, refl))
@@ -248,7 +248,7 @@ module _ (leaves : LeavesUncounted) (old new : UncountedState) (bytes : Bor (Lis
   its_same : new.strip.form ≡ old.strip.form → its_of NewLeft ≡ its_of OldLeft
   its_same same = rw same refl
 
-  next_is : (part : PagePart) (row : SalvagedRow) → PassesUncounted old row new
+  next_is : (part : SalvagedPart) (row : SalvagedRow) → PassesUncounted old row new
       → GoesOverPart OldLeft (Some part) NewLeft → IsNextOf OldLeft (Some part) NewLeft
   next_is part row passes over = grind (arith, its_same, rest_left)
 
@@ -265,7 +265,7 @@ module _ (leaves : LeavesUncounted) (old new : UncountedState) (bytes : Bor (Lis
   uncounted_next (in_strip.Lost fault rows) (one, passes) =
       next_is (Lost rows (Strip fault)) (lost fault) passes
       (lost_alone rows (Strip fault) (lost fault) refl one passes)
-  uncounted_next (in_strip.Unended rows) (pels, one, passes) =
+  uncounted_next (in_strip.Unterminated rows) (pels, one, passes) =
       next_is (Lost rows (Strip MissingEol)) (unended pels) passes
       (lost_alone rows (Strip MissingEol) (unended pels) refl one passes)
 
@@ -278,7 +278,7 @@ module _ (leaves : LeavesUncounted) (old new : UncountedState) (bytes : Bor (Lis
       record {
         next = rw same (omega arith);
         within = rw same sound.within;
-        followed = λ rows left. rw same at left;
+        followed = λ rows remaining. rw same at remaining;
       },
       rw same all_passed_,
       rw same none,
@@ -297,7 +297,7 @@ module _ (leaves : LeavesUncounted) (old new : UncountedState) (bytes : Bor (Lis
           ap (λ (l : List PageRow). length l) (append-nil before.0) in
           omega (arith, all, same_len, before.1)
 
--- before the first of rows that nobody counted, to which the reader is taken again
+-- before the first of rows of a strip of unknown height, to which the reader is taken again
 module _ (form : StripForm) (bytes : Bor (List ℕ)) (end : RowsEnd) (start passed new : UncountedState) (count : ℕ)
     (start_is : start ≡ uncounted_beginning form (bits form.order bytes.now)) (all : PassesAll start end passed)
     (new_is : new ≡ uncounted_beginning passed.strip.form (bits passed.strip.form.order bytes.now))
@@ -332,8 +332,8 @@ module _ (form : StripForm) (bytes : Bor (List ℕ)) (end : RowsEnd) (start pass
 -- before the first row of a page
 pub page_begun : (directory : TiffDirectory) (form : PageForm) (its : ShownState)
     → IsBeforeRows directory form its.rows → IsGoneOver (Page its)
-page_begun directory form its begun = record {
-  within = omega (arith, begun.first);
+page_begun directory form its origin = record {
+  within = omega (arith, origin.first);
   counted = tt;
-  passed = λ rows is. ([], sym begun.first, rw (begun.directory_is, begun.form_is) (begun.all rows is));
+  passed = λ rows is. ([], sym origin.first, rw (origin.directory_is, origin.form_is) (origin.all rows is));
 }

@@ -2,7 +2,7 @@
 use Rattle.std.proofs.Common.{◌≡◌, ℕ, ◌+◌, ◌-◌, ◌*◌, ◌/◌, ◌<◌, ◌≤◌, List, [], ◌∷◌, ◌++◌, length, drop, map, replicate}
 use Rattle.std.proofs.Common.{Bool, false, Option, Some, None, Ok, Err, refl, sym, ap, ◌∙◌, arith, subst}
 use Rattle.std.specs.Prelude.{◌≢◌, flat_map}
-use Rattle.fax_walk.specs.declared.salvage_rows.PlaceInStrip.{PlaceInStrip}
+use Rattle.fax_walk.specs.declared.salvage_rows.StripPositionRef.{StripPositionRef}
 use Rattle.std.proofs.lemmas.List.{length-drop, length-replicate}
 use Rattle.fax_bits.specs.Bits.{bits}
 use Rattle.fax_bits.specs.declared.FillOrder.{FillOrder}
@@ -12,7 +12,7 @@ use Rattle.fax_page.specs.Salvage.{SalvagedRow}
 use Rattle.fax_page.specs.laws.Salvage.{SalvagesStripsOneWay}
 use Rattle.fax_page.specs.declared.PlaceFault.{PlaceFault}
 use Rattle.fax_page.specs.declared.PlaceFault.TheVariants.{Memory, Outside}
-use Rattle.fax_page.specs.declared.RowBefore.{RowBefore}
+use Rattle.fax_page.specs.declared.ReferenceRow.{ReferenceRow}
 use Rattle.fax_page.specs.declared.StripForm.{StripForm}
 use Rattle.fax_page.specs.views.Reader.{IsBefore}
 use Rattle.fax_page.specs.views.Salvage.{IsSalvageInside, SalvageState, salvage_from}
@@ -23,15 +23,15 @@ use Rattle.fax_files.specs.views.Tiff.{PageStrips, TiffDirectory, form_of}
 use Rattle.fax_walk.specs.Pages.{FilePage}
 use Rattle.fax_walk.specs.Salvaged.{PageRow, AreRowsFrom, AreStripsLeft, IsRowOfStrip, on_page}
 use Rattle.fax_walk.specs.code.Opening.{page_with}
-use Rattle.fax_walk.specs.code.SalvageItems.{AreBytesLeft, IsBegunAt, IsInPage, IsNotBegunAt, IsPlaceOf}
-use Rattle.fax_walk.specs.code.SalvageItems.{GoesOverRows, RowsState, row_due, seen_from}
+use Rattle.fax_walk.specs.code.SalvageItems.{AreBytesLeft, StartsAt, IsInPage, IsNotStartedAt, IsPlaceOf}
+use Rattle.fax_walk.specs.code.SalvageItems.{GoesOverRows, RowsState, upcoming_row, seen_from}
 use Rattle.fax_walk.specs.code.ShownRows.{IsShownPart, ShownState}
-use Rattle.fax_walk.specs.declared.salvage_rows.PagePart.{PagePart}
-use Rattle.fax_walk.specs.declared.salvage_rows.PagePart.TheVariants.{Found, Lost}
+use Rattle.fax_walk.specs.declared.salvage_rows.SalvagedPart.{SalvagedPart}
+use Rattle.fax_walk.specs.declared.salvage_rows.SalvagedPart.TheVariants.{Found, Lost}
 use Rattle.fax_walk.specs.Items.{exchanged}
 use Rattle.fax_walk.specs.views.RowsFrom.{IsNextFrom, PassesOver}
 use Rattle.fax_walk.proofs.OpenPageLemmas.{whole_of}
-use Rattle.fax_walk.specs.laws.RowsLeft.{AreLeftFromPlaces}
+use Rattle.fax_walk.specs.laws.SalvagedRows.{AreLeftFromPlaces}
 use Rattle.fax_walk.specs.Salvaged.{strip_left}
 use Rattle.fax_walk.proofs.SalvageLawLemmas.{one_strips}
 use Rattle.fax_walk.proofs.SalvageStepLemmas.{none_after}
@@ -54,11 +54,11 @@ one_strip form r s i there = grind (arith, in_strip)
 -- the strip that holds a row
 pub holds_row : (form : PageForm) (r s : ℕ) → IsPageForm form → r < form.rows → s ≡ r / form.rows_per_strip
     → IsRowOfStrip form r s (r - s * form.rows_per_strip)
-holds_row form r s limits due s_is = grind (arith, whole_of)
+holds_row form r s limits upcoming s_is = grind (arith, whole_of)
 
 module _ (strips : PageStrips) (form : PageForm) (r s i place : ℕ) (bytes : List ℕ) (whole : Bool)
-    (before : RowBefore)
-    (left : AreBytesLeft strips.directory s bytes whole) where
+    (before : ReferenceRow)
+    (remaining : AreBytesLeft strips.directory s bytes whole) where
   abbrev here : FilePage
   here = page_with strips.directory form
 
@@ -81,17 +81,17 @@ module _ (strips : PageStrips) (form : PageForm) (r s i place : ℕ) (bytes : Li
             omega (arith, row_is, rows_are, there.row);
         stands = record {
           bytes = bytes;
-          left = left;
-          due = λ _. (place, omega (arith, within, len), sym (ap (λ (s : SalvageState). s.due) reader_is));
+          remaining = remaining;
+          upcoming = λ _. (place, omega (arith, within, len), sym (ap (λ (s : SalvageState). s.upcoming) reader_is));
         };
         whole_before = λ is. absurd cc;
         clean_now = λ is. absurd cc;
       }
 
       -- what is left from there on
-      pub begun_at : IsBefore form.width before reader.reference
-          → IsBegunAt strips.directory form r place before (state_of strips.directory form s whole reader)
-      begun_at reference = (
+      pub started_at : IsBefore form.width before reader.reference
+          → StartsAt strips.directory form r place before (state_of strips.directory form s whole reader)
+      started_at reference = (
         refl,
         refl,
         record {
@@ -104,31 +104,31 @@ module _ (strips : PageStrips) (form : PageForm) (r s i place : ℕ) (bytes : Li
           i = i;
           at = record { bits = place; reference = reader.reference };
           there = there;
-          inner = record { bits_are = refl; within = rw (left form) within; reference = reference };
-          rows_are = λ rows is. rw (left form) (is.0, is.1, rw reader_is at is.2, is.3, is.4);
+          inner = record { bits_are = refl; within = rw (remaining form) within; reference = reference };
+          rows_are = λ rows is. rw (remaining form) (is.0, is.1, rw reader_is at is.2, is.3, is.4);
         },
       )
 
   -- there is no such place
   pub not_begun_at : (fault : PlaceFault) → s ≡ r / form.rows_per_strip → i ≡ r - s * form.rows_per_strip
       → IsSalvageInside (strip_form form s) bytes i place before (Err fault)
-      → IsNotBegunAt strips.directory form r place before fault
+      → IsNotStartedAt strips.directory form r place before fault
   not_begun_at Outside s_is i_is none = λ s' i' there at inner.
       let same : s' ≡ s = sym (one_strip form r s' i' there) ∙ sym s_is in
       let its = rw same at inner in
-      none (rw (left form) at its.within) at.reference its.reference
+      none (rw (remaining form) at its.within) at.reference its.reference
   not_begun_at Memory s_is i_is (fits, row, is) = λ s' i' there.
       let same : s' ≡ s = sym (one_strip form r s' i' there) ∙ sym s_is in (
         record { bits = place; reference = row },
-        record { bits_are = refl; within = rw (same, left form) fits; reference = is },
+        record { bits_are = refl; within = rw (same, remaining form) fits; reference = is },
       )
 
 -- the bytes of a strip are the same
 one_bytes : (directory : TiffDirectory) (form : PageForm) (s : ℕ) (bytes others : List ℕ) (whole another : Bool)
     → AreBytesLeft directory s bytes whole → AreBytesLeft directory s others another
     → (bytes ≡ others) × (whole ≡ another)
-one_bytes directory form s bytes others whole another left also =
-    let same = sym (left form) ∙ also form in (
+one_bytes directory form s bytes others whole another remaining also =
+    let same = sym (remaining form) ∙ also form in (
       ap (λ (pair : List ℕ × Bool). pair.0) same,
       ap (λ (pair : List ℕ × Bool). pair.1) same,
     )
@@ -153,12 +153,12 @@ module _ (strips : PageStrips) (form : PageForm) (s : ℕ) (whole clean : Bool) 
 
   -- the strip is gone through, and the next one begins with the row
   pub place_next : reader.row ≡ (strip_form form s).rows → IsPlaceOf at_place None
-  place_next gone before due =
+  place_next gone before upcoming =
       let its = whole_of form is.limits in
       let m = form.rows_per_strip in
-      let full : reader.row ≡ m = omega (arith, gone, due) in
+      let full : reader.row ≡ m = omega (arith, gone, upcoming) in
       let there : s * m + m ≡ (s + 1) * m = omega arith in
-      let later : (s + 1) * m < form.rows = omega (arith, due, full, there) in
+      let later : (s + 1) * m < form.rows = omega (arith, upcoming, full, there) in
       let more : s + 1 < form.strips = grind (arith, its.enough, later) in (
         s + 1,
         0,
@@ -166,8 +166,8 @@ module _ (strips : PageStrips) (form : PageForm) (s : ℕ) (whole clean : Bool) 
         omega arith,
         length-replicate form.width White,
         (λ _. refl),
-        λ rows left. next_rows rows left.0 left.1 more
-            (none_after reader left.0 (gone ∙ sym rows_of_strip) left.2) left.3 left.4,
+        λ rows remaining. next_rows rows remaining.0 remaining.1 more
+            (none_after reader remaining.0 (gone ∙ sym rows_of_strip) remaining.2) remaining.3 remaining.4,
       )
     where
       next_rows : (rows : List PageRow) (own : List SalvagedRow) (others : List (List PageRow)) → s + 1 < form.strips
@@ -179,43 +179,43 @@ module _ (strips : PageStrips) (form : PageForm) (s : ℕ) (whole clean : Bool) 
       next_rows rows own (first ∷ others) more none (some, (its, salvaged, first_is), are) rows_are = grind arith
 
   module _ (bytes : List ℕ) (another : Bool) (not_gone : reader.row ≢ (strip_form form s).rows)
-      (left : AreBytesLeft strips.directory s bytes another)
+      (remaining : AreBytesLeft strips.directory s bytes another)
       (len : (order : FillOrder) (bytes : List ℕ) → length (bits order bytes) ≡ 8 * length bytes) where
     same : bytes ≡ is.stands.bytes
-    same = (one_bytes strips.directory form s bytes is.stands.bytes another whole left is.stands.left).0
+    same = (one_bytes strips.directory form s bytes is.stands.bytes another whole remaining is.stands.remaining).0
 
     inside : reader.row < reader.form.rows
     inside = omega (arith, is.within, not_gone, rows_of_strip)
 
     abbrev n : ℕ
-    n = (is.stands.due inside).0
+    n = (is.stands.upcoming inside).0
 
     abbrev Counted : Type 0
-    Counted = (n ≤ 8 * length bytes) × (length reader.due ≡ 8 * length bytes - n)
+    Counted = (n ≤ 8 * length bytes) × (length reader.upcoming ≡ 8 * length bytes - n)
 
     counted : Counted
     counted = grind (arith, inside, same, length-drop)
 
     -- so many bits are left
-    pub due_fits : length reader.due ≤ 8 * length bytes
+    pub due_fits : length reader.upcoming ≤ 8 * length bytes
     due_fits = omega (arith, counted)
 
     -- the row stands inside the strip
-    pub place_here : (lent : PlaceInStrip) → lent.bits ≡ 8 * length bytes - length reader.due
+    pub place_here : (lent : StripPositionRef) → lent.bits ≡ 8 * length bytes - length reader.upcoming
         → lent.reference.now ≡ reader.reference → length lent.reference.now ≡ reader.form.width
         → IsPlaceOf at_place (Some lent)
-    place_here lent bits_are reference_is width before due = grind (arith, inside, counted, same, rows_of_strip)
+    place_here lent bits_are reference_is width before upcoming = grind (arith, inside, counted, same, rows_of_strip)
 
 -- a row that a reader begins before has its place in its strip
-pub begun_fits : (directory : TiffDirectory) (form : PageForm) (r bits : ℕ) (before : RowBefore) (state : RowsState)
-    → IsBegunAt directory form r bits before state → IsNotBegunAt directory form r bits before Memory
-begun_fits directory form r bits before state (same, also, begun) s i there =
-    let one : s ≡ begun.s = sym (one_strip form r s i there) ∙ one_strip form r begun.s begun.i begun.there in
-    (begun.at, rw one begun.inner)
+pub begun_fits : (directory : TiffDirectory) (form : PageForm) (r bits : ℕ) (before : ReferenceRow) (state : RowsState)
+    → StartsAt directory form r bits before state → IsNotStartedAt directory form r bits before Memory
+begun_fits directory form r bits before state (same, also, origin) s i there =
+    let one : s ≡ origin.s = sym (one_strip form r s i there) ∙ one_strip form r origin.s origin.i origin.there in
+    (origin.at, rw one origin.inner)
 
 -- rows of a page are passed
 passes_over : (old new : ShownState) (over : List PageRow) → GoesOverRows old.rows over new.rows
-    → row_due new.rows ≡ row_due old.rows + length over → row_due new.rows ≤ new.rows.form.rows
+    → upcoming_row new.rows ≡ upcoming_row old.rows + length over → upcoming_row new.rows ≤ new.rows.form.rows
     → PassesOver (seen_from old.rows old.shown) over (seen_from new.rows new.shown)
 passes_over old new over goes next within = record {
   same_file = ap (λ (d : TiffDirectory). d.file) goes.stays.0;
@@ -226,8 +226,8 @@ passes_over old new over goes next within = record {
   followed = goes.followed;
 }
 
--- what became of the row that was due
-pub next_from : (old new : ShownState) (part : Option PagePart) → IsShownPart old part new
+-- what became of the next row
+pub next_from : (old new : ShownState) (part : Option SalvagedPart) → IsShownPart old part new
     → IsNextFrom (seen_from old.rows old.shown) part (seen_from new.rows new.shown)
 next_from old new None ((goes, same, all, are, none, _), shown) =
     (passes_over old new [] goes (omega (arith, same)) (omega (arith, all)), all, are, none)
@@ -244,7 +244,7 @@ next_from old new (Some Found) ((goes, next, within, before, ends), shown) =
 next_from old new (Some (Lost rows cause)) ((goes, some, next, within), shown) = (
   some,
   passes_over old new (replicate rows (Err cause)) goes
-      (next ∙ ap (λ n. row_due old.rows + n) (sym (length-replicate rows (Err cause)))) within,
+      (next ∙ ap (λ n. upcoming_row old.rows + n) (sym (length-replicate rows (Err cause)))) within,
 )
 
 -- what is left from a place on is one list, and from the first one on it is what is left of the
@@ -252,13 +252,13 @@ next_from old new (Some (Lost rows cause)) ((goes, some, next, within), shown) =
 pub left_from_places : SalvagesStripsOneWay → AreLeftFromPlaces
 left_from_places salvages = record {
   one = λ file here s i at rows others within (own, strips, is, are, rows_are) (own', strips', is', are', others_are).
-      let left = strip_left here file s in
+      let remaining = strip_left here file s in
       let one =
-      salvages (strip_form here.form s) i None at.reference (drop at.bits (bits here.form.order left.0)) within in
+      salvages (strip_form here.form s) i None at.reference (drop at.bits (bits here.form.order remaining.0)) within in
       let same : own ≡ own' = one.one own is ∙ sym (one.one own' is') in
       let later : strips ≡ strips' = one_strips salvages file here (s + 1) strips strips' are are' in
       rows_are ∙ rw (same, later) (sym others_are);
   all = λ file here rows some (own, strips, is, are, rows_are).
-      let left = strip_left here file 0 in
-      (map (on_page here.form left.1) own ∷ strips, (some, (own, is, refl), are), rows_are);
+      let remaining = strip_left here file 0 in
+      (map (on_page here.form remaining.1) own ∷ strips, (some, (own, is, refl), are), rows_are);
 }

@@ -25,7 +25,7 @@ use Rattle.std.proofs.Common.{subst}
 use Rattle.fax_walk.specs.Salvaged.{PageRow, on_page, IsStripLeft, AreStripsLeft}
 use Rattle.fax_walk.specs.code.Opening.{page_with}
 use Rattle.fax_walk.specs.code.SalvageItems.{RowsState, AreBytesLeft, AreRowsLeft, IsBeforeRows, EntersStrip}
-use Rattle.fax_walk.specs.declared.salvage_rows.PagePart.TheVariants.{Lost}
+use Rattle.fax_walk.specs.declared.salvage_rows.SalvagedPart.TheVariants.{Lost}
 use Rattle.fax_walk.specs.code.SalvageItems.{cause_of, part_of, IsPart}
 use Rattle.std.proofs.lemmas.Bool.{cases_lt}
 use Rattle.std.proofs.lemmas.List.{map-append}
@@ -33,7 +33,7 @@ use Rattle.fax_walk.proofs.OpenPageLemmas.{whole_of}
 use Rattle.fax_walk.proofs.SalvageStepLemmas.{PassesAs, found_before, none_after, over_of, step_passes}
 use Rattle.std.proofs.Common.{length}
 use Rattle.std.proofs.lemmas.List.{length-replicate}
-use Rattle.fax_walk.specs.code.SalvageItems.{GoesOverRows, row_due}
+use Rattle.fax_walk.specs.code.SalvageItems.{GoesOverRows, upcoming_row}
 use Rattle.fax_walk.specs.Pages.{Cause}
 use Rattle.fax_page.proofs.SalvagePlaceLaws.{rest_of_rest}
 
@@ -53,19 +53,19 @@ step_on_page : (form : PageForm) (whole : Bool) (old new : SalvageState) (salvag
 step_on_page form whole old new salvaged step =
     step_passes (on_page form whole) whole old new (lost_named form whole) (unended_named form whole) salvaged step
 
--- the rows of a strip, where it is begun
+-- the rows of a strip, where it is started
 strip_begun : (directory : TiffDirectory) (form : PageForm) (s : ℕ) (bytes : List ℕ) (whole : Bool)
     (own : List SalvagedRow)
     → AreBytesLeft directory s bytes whole
     → AreSalvaged (strip_form form s) 0 None (white_row form.width) (bits form.order bytes) own
     → IsStripLeft directory.file (page_with directory form) s (map (on_page form whole) own)
-strip_begun directory form s bytes whole own left is = rw (left form) (own, is, refl)
+strip_begun directory form s bytes whole own remaining is = rw (remaining form) (own, is, refl)
 
 -- the bytes of a strip that lies wholly in the file
 whole_bytes : (directory : TiffDirectory) (form : PageForm) (s : ℕ) (bytes : List ℕ)
     → AreBytesLeft directory s bytes true
     → bytes_of directory s ≡ Some bytes
-whole_bytes directory form s bytes left = by_bytes (bytes_of directory s) (left form)
+whole_bytes directory form s bytes remaining = by_bytes (bytes_of directory s) (remaining form)
   where
     by_bytes : (o : Option (List ℕ))
         → ◌≡◌ {A = List ℕ × Bool} (elim o [
@@ -79,9 +79,9 @@ whole_bytes directory form s bytes left = by_bytes (bytes_of directory s) (left 
 pub clean_begun : (directory : TiffDirectory) (form : PageForm) (s : ℕ) (bytes : List ℕ) (reader : SalvageState)
     → AreBytesLeft directory s bytes true
     → reader ≡ salvage_beginning (strip_form form s) (bits form.order bytes) → IsCleanSoFar directory form s reader
-clean_begun directory form s bytes reader left begins = record {
+clean_begun directory form s bytes reader remaining begins = record {
   bytes = bytes;
-  bytes_are = whole_bytes directory form s bytes left;
+  bytes_are = whole_bytes directory form s bytes remaining;
   rows = [];
   followed = λ own is. rw begins at is;
 }
@@ -108,7 +108,7 @@ whole_strip law directory form s reader clean all =
       bytes = clean.bytes;
       bytes_are = clean.bytes_are;
       rows = clean.rows;
-      is = record { left = lines.0; lines = lines.1 };
+      is = record { remaining = lines.0; lines = lines.1 };
     }
 
 -- one strip more is whole
@@ -131,7 +131,7 @@ pub before_rows : (directory : TiffDirectory) (form : PageForm) (bytes : List �
     → reader ≡ salvage_beginning (strip_form form 0) (bits form.order bytes)
     → IsBeforeRows directory form
     (record { directory = directory; form = form; strip = 0; whole = whole; clean = whole; reader = reader })
-before_rows directory form bytes whole reader limits left begins = record {
+before_rows directory form bytes whole reader limits remaining begins = record {
   directory_is = refl;
   form_is = refl;
   first = grind (arith, begins);
@@ -139,7 +139,7 @@ before_rows directory form bytes whole reader limits left begins = record {
       let own = rw begins at is.2 in
       let some : 0 < form.strips = grind (arith, limits) in (
         map (on_page form whole) is.0 ∷ is.1,
-        (some, strip_begun directory form 0 bytes whole is.0 left own, is.3),
+        (some, strip_begun directory form 0 bytes whole is.0 remaining own, is.3),
         is.4,
       );
 }
@@ -167,7 +167,7 @@ module _ (old : RowsState) (limits : IsPageForm old.form) (inside : old.strip < 
         reader =
             reader;
       })
-  entered bytes all reader gone more left begins clean =
+  entered bytes all reader gone more remaining begins clean =
       let next : old.strip + 1 < old.form.strips = omega (arith, inside, more) in
       let below = whole.needed (old.strip + 1) next in
       let last : old.reader.row ≡ old.reader.form.rows = omega (arith, within, gone, rows_are) in
@@ -182,10 +182,10 @@ module _ (old : RowsState) (limits : IsPageForm old.form) (inside : old.strip < 
               [],
               map (on_page old.form all) is.0 ∷ is.1,
               last,
-              (next, strip_begun old.directory old.form (old.strip + 1) bytes all is.0 left own, is.3),
+              (next, strip_begun old.directory old.form (old.strip + 1) bytes all is.0 remaining own, is.3),
               is.4,
             );
-        due = λ none. absurd (omega (arith, none, row_zero, rows_some, below, limits.some_rows_per_strip));
+        upcoming = λ none. absurd (omega (arith, none, row_zero, rows_some, below, limits.some_rows_per_strip));
       }
 
   -- all rows of the page are gone through
@@ -211,10 +211,10 @@ module _ (old : RowsState) (limits : IsPageForm old.form) (inside : old.strip < 
   pub ends_with_page : (reader : SalvageState) → reader.form.rows ≡ old.reader.form.rows
       → reader.row ≤ old.reader.form.rows → (clean : Bool)
       → EndsWithPage (seen_from (record old { reader = reader; clean = clean }) [])
-  ends_with_page reader same few clean due rows is =
+  ends_with_page reader same few clean upcoming rows is =
       let below = whole.needed old.strip inside in
-      let all : old.strip * n + old.reader.form.rows ≡ old.form.rows = omega (arith, due, few, rows_are, below) in
-      let gone : reader.row ≡ reader.form.rows = omega (arith, due, all, same) in
+      let all : old.strip * n + old.reader.form.rows ≡ old.form.rows = omega (arith, upcoming, few, rows_are, below) in
+      let gone : reader.row ≡ reader.form.rows = omega (arith, upcoming, all, same) in
       none_left reader rows gone (last_strip all) is
 
   module _ (before : RowsState) (enters : EntersStrip before old) where
@@ -223,13 +223,13 @@ module _ (old : RowsState) (limits : IsPageForm old.form) (inside : old.strip < 
         → (reader : SalvageState) → IsSalvageStep old.reader None reader
         → IsPart before None (record old { reader = reader })
     no_part law whole_before clean_now reader (all, same) =
-        let due = enters.due all in
-        let due_rows : old.strip * n + old.reader.form.rows ≡ old.form.rows = omega (arith, all, due) in
+        let upcoming = enters.upcoming all in
+        let due_rows : old.strip * n + old.reader.form.rows ≡ old.form.rows = omega (arith, all, upcoming) in
         let last = last_strip due_rows in
         rw same (
           record { stays = enters.stays; followed = enters.same_rows },
           enters.same_row,
-          due,
+          upcoming,
           ([], [], all, last, refl),
           (λ rows is. none_left old.reader rows all last is),
           λ clean. subst (AreWholeBefore old.directory old.form) last
@@ -246,7 +246,7 @@ module _ (old : RowsState) (limits : IsPageForm old.form) (inside : old.strip < 
       goes : GoesOverRows before over new
       goes = grind (arith, rows_are, append_assoc)
 
-      next : row_due new ≡ row_due before + length over
+      next : upcoming_row new ≡ upcoming_row before + length over
       next = omega (arith, passes.next, enters.same_row)
 
     lost_part : (reader : SalvageState) (clean : Bool) (count : ℕ) (cause : Cause)
@@ -261,7 +261,7 @@ module _ (old : RowsState) (limits : IsPageForm old.form) (inside : old.strip < 
           on_the_page reader.row passes.within,
         )
 
-    -- what became of the row that was due
+    -- what became of the next row
     pub part_read : (clean : Bool) (salvaged : Salvaged) (reader : SalvageState)
         → IsSalvageStep old.reader (Some salvaged) reader
         → IsPart before (Some (part_of salvaged old.whole)) (record old { reader = reader; clean = clean })
@@ -277,20 +277,20 @@ module _ (old : RowsState) (limits : IsPageForm old.form) (inside : old.strip < 
     part_read clean (in_strip.Lost fault count) reader step =
         lost_part reader clean count _ (step_on_page old.form old.whole old.reader reader (in_strip.Lost fault count)
         step)
-    part_read clean (in_strip.Unended count) reader step =
-        lost_part reader clean count _ (step_on_page old.form old.whole old.reader reader (in_strip.Unended count)
+    part_read clean (in_strip.Unterminated count) reader step =
+        lost_part reader clean count _ (step_on_page old.form old.whole old.reader reader (in_strip.Unterminated count)
         step)
 
--- a strip that is begun stands in its bits
+-- a strip that is started stands in its bits
 stands_begun : (directory : TiffDirectory) (form : PageForm) (s : ℕ) (bytes : List ℕ) (whole : Bool)
     (reader : SalvageState)
     → AreBytesLeft directory s bytes whole
     → reader ≡ salvage_beginning (strip_form form s) (bits form.order bytes)
     → StandsInStrip directory form s whole reader
-stands_begun directory form s bytes whole reader left begins = record {
+stands_begun directory form s bytes whole reader remaining begins = record {
   bytes = bytes;
-  left = left;
-  due = λ _. (0, omega arith, sym (ap (λ (s : SalvageState). s.due) begins));
+  remaining = remaining;
+  upcoming = λ _. (0, omega arith, sym (ap (λ (s : SalvageState). s.upcoming) begins));
 }
 
 module _ (strips : PageStrips) (form : PageForm) where
@@ -299,7 +299,12 @@ module _ (strips : PageStrips) (form : PageForm) where
       → IsPageForm form → strips.count ≡ form.strips → AreBytesLeft strips.directory 0 bytes whole
       → reader ≡ salvage_beginning (strip_form form 0) (bits form.order bytes)
       → IsInPage strips form 0 whole whole reader
-  begun_in_page bytes whole reader form_is limits counted left begins = grind (arith, stands_begun, whole, clean_begun)
+  begun_in_page bytes whole reader form_is limits counted remaining begins = grind (
+    arith,
+    stands_begun,
+    whole,
+    clean_begun,
+  )
 
   module _ (strip : ℕ) (whole clean : Bool) (reader : SalvageState) (old : IsInPage strips form strip whole clean
       reader)
@@ -309,7 +314,7 @@ module _ (strips : PageStrips) (form : PageForm) where
           → (bytes : List ℕ) (all now : Bool) (new : SalvageState) → AreBytesLeft strips.directory (strip + 1) bytes all
           → new ≡ salvage_beginning (strip_form form (strip + 1)) (bits form.order bytes)
           → (now ≡ true → (clean ≡ true) × (all ≡ true)) → IsInPage strips form (strip + 1) all now new
-      next_in_page law gone more bytes all now new left begins split =
+      next_in_page law gone more bytes all now new remaining begins split =
           let rows_are : reader.form.rows ≡ (strip_form form strip).rows =
           ap (λ (f : StripForm). f.rows) old.reader_form in
           record {
@@ -319,11 +324,12 @@ module _ (strips : PageStrips) (form : PageForm) where
             inside = omega (arith, old.inside, more);
             reader_form = ap (λ (s : SalvageState). s.form) begins;
             within = let none : new.row ≡ 0 = ap (λ (s : SalvageState). s.row) begins in omega (arith, none);
-            stands = stands_begun strips.directory form (strip + 1) bytes all new left begins;
+            stands = stands_begun strips.directory form (strip + 1) bytes all new remaining begins;
             whole_before = λ is. whole_after strips.directory form strip (old.whole_before (split is).0)
                 (whole_strip law strips.directory form strip reader (old.clean_now (split is).0)
                 (omega (arith, gone, rows_are, old.within)));
-            clean_now = λ is. clean_begun strips.directory form (strip + 1) bytes new (rw (split is).1 at left) begins;
+            clean_now = λ is. clean_begun strips.directory form (strip + 1) bytes new (rw (split is).1 at remaining)
+                begins;
           }
 
       -- after a row, or more
@@ -342,9 +348,9 @@ module _ (strips : PageStrips) (form : PageForm) where
             within = omega (arith, passes.within, rows_are);
             stands = record {
               bytes = old.stands.bytes;
-              left = old.stands.left;
-              due = λ is. rest_of_rest (bits form.order old.stands.bytes) reader.due new.due
-                  (old.stands.due passes.due) (law reader new salvaged step is);
+              remaining = old.stands.remaining;
+              upcoming = λ is. rest_of_rest (bits form.order old.stands.bytes) reader.upcoming new.upcoming
+                  (old.stands.upcoming passes.upcoming) (law reader new salvaged step is);
             };
             whole_before = λ is. old.whole_before (split is).0;
             clean_now = λ is. clean_after strips.directory form strip reader new salvaged (old.clean_now (split is).0)

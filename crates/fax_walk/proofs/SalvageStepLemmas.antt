@@ -9,16 +9,16 @@ use Rattle.fax_page.specs.declared.StripFault.TheVariants.{MissingEol}
 use Rattle.fax_page.specs.declared.salvage_reader.Salvaged.{Salvaged}
 use Rattle.fax_page.specs.declared.salvage_reader.Salvaged.TheVariants as in_strip
 use Rattle.fax_page.specs.Lines.{white_row}
-use Rattle.fax_page.specs.Salvage.{SalvagedRow, found, lost, unended, AreSalvaged, next_due}
+use Rattle.fax_page.specs.Salvage.{SalvagedRow, found, lost, unended, AreSalvaged, resync_point}
 use Rattle.fax_page.specs.views.Salvage.{SalvageState, FindsRow, IsAfterLost, IsSalvageStep}
 use Rattle.fax_walk.specs.Salvaged.{PageRow}
 use Rattle.fax_walk.specs.code.SalvageItems.{cause_of, part_of}
-use Rattle.fax_walk.specs.declared.salvage_rows.PagePart.{PagePart}
-use Rattle.fax_walk.specs.declared.salvage_rows.PagePart.TheVariants.{Found, Lost}
+use Rattle.fax_walk.specs.declared.salvage_rows.SalvagedPart.{SalvagedPart}
+use Rattle.fax_walk.specs.declared.salvage_rows.SalvagedPart.TheVariants.{Found, Lost}
 
--- what is left of a strip from the row that is due on
+-- what is left of a strip from the next row on
 abbrev pub AreLeftInStrip : SalvageState → List SalvagedRow → Type 0
-AreLeftInStrip its own = AreSalvaged its.form its.row its.before its.reference its.due own
+AreLeftInStrip its own = AreSalvaged its.form its.row its.before its.reference its.upcoming own
 
 -- after the last row of a strip there is none
 pub none_after : (its : SalvageState) (rows : List SalvagedRow) → its.row ≡ its.form.rows → AreLeftInStrip its rows
@@ -39,18 +39,18 @@ module _ (old new : SalvageState) where
       → AreLeftInStrip old (found new.reference ∷ own)
   found_before finds own is = grind arith
 
-  -- rows are lost from the one that was due on
-  module _ (fault : StripFault) (count : ℕ) (due : old.row < old.form.rows) where
+  -- rows are lost from the next one on
+  module _ (fault : StripFault) (count : ℕ) (upcoming : old.row < old.form.rows) where
     abbrev others : List SalvagedRow
     others = replicate (count - 1) (lost fault)
 
-    -- as the next row that is due says
+    -- as the next row says
     record IsLostSo (o : Option (List Bool)) : Type 0 where
       same_form : new.form ≡ old.form
       some : 0 < count
       next : new.row ≡ old.row + count
       within : new.row ≤ old.form.rows
-      left : (own : List SalvagedRow) → AreLeftInStrip new own
+      remaining : (own : List SalvagedRow) → AreLeftInStrip new own
           → MatchOption o (others ++ own ≡ replicate (old.form.rows - (old.row + 1)) (lost fault))
           (λ b. AreSalvaged old.form (old.row + 1) (Some fault) (white_row old.form.width) b (others ++ own))
 
@@ -59,7 +59,7 @@ module _ (old new : SalvageState) where
         (λ b. (count ≡ 1) × (new ≡ record {
           form = old.form;
           row = old.row + 1;
-          due = b;
+          upcoming = b;
           reference = white_row old.form.width;
           before = Some fault;
         }))
@@ -68,7 +68,7 @@ module _ (old new : SalvageState) where
 
 -- rows are passed, as the page or the strip shows them
 pub record PassesAs (shown : SalvagedRow → PageRow) (old new : SalvageState) (over : List PageRow) : Type 0 where
-  pub due : old.row < old.form.rows
+  pub upcoming : old.row < old.form.rows
   pub same_form : new.form ≡ old.form
   pub some : 0 < length over
   pub next : new.row ≡ old.row + length over
@@ -77,32 +77,33 @@ pub record PassesAs (shown : SalvagedRow → PageRow) (old new : SalvageState) (
       → (all : List SalvagedRow) × AreLeftInStrip old all × (over ++ map shown own ≡ map shown all)
 
 -- what a call passes
-abbrev pub over_of : (SalvagedRow → PageRow) → SalvageState → PagePart → List PageRow
+abbrev pub over_of : (SalvagedRow → PageRow) → SalvageState → SalvagedPart → List PageRow
 over_of shown new Found = shown (found new.reference) ∷ []
 over_of shown new (Lost count cause) = replicate count (Err cause)
 
 module _ (shown : SalvagedRow → PageRow) (whole : Bool) (old new : SalvageState)
     (lost_is : (fault : StripFault) → shown (lost fault) ≡ Err (cause_of fault whole))
     (unended_is : (row : List Colour) → shown (unended row) ≡ Err (cause_of MissingEol whole)) where
-  lost_passes : (fault : StripFault) (count : ℕ) (due : old.row < old.form.rows) (first : SalvagedRow)
+  lost_passes : (fault : StripFault) (count : ℕ) (upcoming : old.row < old.form.rows) (first : SalvagedRow)
       → (after : IsAfterLost old fault count new) → shown first ≡ Err (cause_of fault whole)
       → ((own : List SalvagedRow)
-      → MatchOption (next_due old.form.coding after.0) (own ≡ replicate (old.form.rows - (old.row + 1)) (lost fault))
+      → MatchOption (resync_point old.form.coding after.0) (own
+      ≡ replicate (old.form.rows - (old.row + 1)) (lost fault))
       (λ b. AreSalvaged old.form (old.row + 1) (Some fault) (white_row old.form.width) b own)
       → AreLeftInStrip old (first ∷ own))
       → PassesAs shown old new (replicate count (Err (cause_of fault whole)))
-  lost_passes fault count due first after first_is follows =
-      let so = lost_so old new fault count due (next_due old.form.coding after.0) after.2 in
-      let more = others old new fault count due in
+  lost_passes fault count upcoming first after first_is follows =
+      let so = lost_so old new fault count upcoming (resync_point old.form.coding after.0) after.2 in
+      let more = others old new fault count upcoming in
       let over : List PageRow = replicate count (Err (cause_of fault whole)) in
       let many : length over ≡ count = length-replicate count (Err (cause_of fault whole)) in
       record {
-        due = due;
+        upcoming = upcoming;
         same_form = so.same_form;
         some = omega (arith, many, so.some);
         next = omega (arith, many, so.next);
         within = so.within;
-        followed = λ own is. (first ∷ more ++ own, follows (more ++ own) (so.left own is), named own so.some);
+        followed = λ own is. (first ∷ more ++ own, follows (more ++ own) (so.remaining own is), named own so.some);
       }
     where
       named : (own : List SalvagedRow) → 0 < count
@@ -113,17 +114,17 @@ module _ (shown : SalvagedRow → PageRow) (whole : Bool) (old new : SalvageStat
   pub step_passes : (salvaged : Salvaged) → IsSalvageStep old (Some salvaged) new
       → PassesAs shown old new (over_of shown new (part_of salvaged whole))
   step_passes in_strip.Found finds = record {
-    due = finds.due;
+    upcoming = finds.upcoming;
     same_form = ap (λ (s : SalvageState). s.form) finds.new_is;
     some = omega arith;
     next = ap (λ (s : SalvageState). s.row) finds.new_is;
     within = let row_is : new.row ≡ old.row + 1 = ap (λ (s : SalvageState). s.row) finds.new_is in
-        omega (arith, row_is, finds.due);
+        omega (arith, row_is, finds.upcoming);
     followed = λ own is. (found new.reference ∷ own, found_before old new finds own is, refl);
   }
-  step_passes (in_strip.Lost fault count) (due, is_lost, after) =
-      lost_passes fault count due (lost fault) after (lost_is fault)
-      (λ own is. (due, is_lost, (after.0, after.1, is)))
-  step_passes (in_strip.Unended count) (row, rest, read, eol_due, below, after) =
+  step_passes (in_strip.Lost fault count) (upcoming, is_lost, after) =
+      lost_passes fault count upcoming (lost fault) after (lost_is fault)
+      (λ own is. (upcoming, is_lost, (after.0, after.1, is)))
+  step_passes (in_strip.Unterminated count) (row, rest, read, eol_due, below, after) =
       lost_passes MissingEol count (omega (arith, eol_due.1)) (unended row) after (unended_is row)
       (λ own is. (rest, read, eol_due, below, (after.0, after.1, is)))

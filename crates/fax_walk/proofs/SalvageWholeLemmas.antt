@@ -1,10 +1,10 @@
--- A page of which nothing is lost: its rows are those that a walk hands out.
+-- A page of which nothing is lost: its rows are those that a walk returns.
 use Rattle.std.proofs.Common.{◌≡◌, ℕ, zero, suc, ◌+◌, ◌*◌, ◌≤◌, true, false, List, ◌++◌, length, min, None, refl}
 use Rattle.std.proofs.Common.{arith}
 use Rattle.std.proofs.lemmas.Bool.Decides.{nat_tests}
 use Rattle.std.specs.Prelude.{nat_lt}
 use Rattle.fax_bits.specs.Bits.{bits}
-use Rattle.fax_bits.specs.laws.Codes.{AreBitsByPlace}
+use Rattle.fax_bits.specs.laws.Codes.{AreBitsByIndex}
 use Rattle.fax_files.specs.declared.PageForm.{PageForm}
 use Rattle.fax_files.specs.Page.{strip_form}
 use Rattle.fax_files.specs.laws.TiffFiles.{IsWholeForm}
@@ -21,7 +21,7 @@ use Rattle.fax_walk.proofs.RowLawLemmas.{LinesAreRead}
 use Rattle.fax_walk.proofs.StripPlaceLemmas.{strip_count}
 use Rattle.fax_walk.proofs.StripRowLemmas.{strip_rows}
 
-module _ (by_place : AreBitsByPlace) (lines_read : LinesAreRead) (directory : TiffDirectory) (form : PageForm) (p : ℕ)
+module _ (by_place : AreBitsByIndex) (lines_read : LinesAreRead) (directory : TiffDirectory) (form : PageForm) (p : ℕ)
     (limits : IsPageForm form) (page : IsPageOf directory.file p (page_with directory form)) where
   abbrev n : ℕ
   n = form.rows_per_strip

@@ -36,10 +36,10 @@ some_run colour n [] = omega arith
 some_run colour n (first ∷ pels) = grind (arith, common_steps, some_run colour (n + 1) pels)
 
 pub cursors_are_short : FormsAreWhole → FilesHaveOneChain → CursorsAreShort
-cursors_are_short forms chains file begun all end n item short reached tail there =
-    let split = split_at_number file begun all end n item tail there in
-    let row = read forms file begun reached item (drop (n + 1) all) end split in
-    let from = here_from forms file begun reached item (drop (n + 1) all) end split row.here row.page in
+cursors_are_short forms chains file origin all end n item short reached tail there =
+    let split = split_at_number file origin all end n item tail there in
+    let row = read forms file origin reached item (drop (n + 1) all) end split in
+    let from = here_from forms file origin reached item (drop (n + 1) all) end split row.here row.page in
     let whole = whole_page file forms (record { page = split.row.at.page; row = split.row.at.row }) row.here row.page in
     let few = page_few chains file (record { page = split.row.at.page; row = split.row.at.row }) row.here row.page in
     record {
@@ -48,17 +48,17 @@ cursors_are_short forms chains file begun all end n item short reached tail ther
     }
 
 pub places_are_short : LinesAreRead → FormsAreWhole → FilesHaveOneChain → PlacesAreShort
-places_are_short lines_read forms chains file begun all end n item place short tail there long =
+places_are_short lines_read forms chains file origin all end n item place short tail there long =
     let after = drop (n + 1) all in
-    let split = split_at_number file begun all end n item tail there in
-    let row = this forms file lines_read begun item after end split place long in
-    let fact = facts forms file lines_read begun item after end split place long in
+    let split = split_at_number file origin all end n item tail there in
+    let row = this forms file lines_read origin item after end split place long in
+    let fact = facts forms file lines_read origin item after end split place long in
     let whole = whole_page file forms (record { page = split.row.at.page; row = split.row.at.row }) row.here row.page in
     let few = page_few chains file (record { page = split.row.at.page; row = split.row.at.row }) row.here row.page in
     let wide : length (exchanged row.here.form item.pels) ≡ row.here.form.width =
-    ap (λ (l : List Colour). length l) (sym (pels_are forms file lines_read begun item after end split place
+    ap (λ (l : List Colour). length l) (sym (pels_are forms file lines_read origin item after end split place
     long))
-    ∙ (inner forms file lines_read begun item after end split place long).1 in
+    ∙ (inner forms file lines_read origin item after end split place long).1 in
     let runs : All (λ run. run < 2 ^ 32) (runs_of (exchanged row.here.form item.pels)) =
     runs_short White 0 (2 ^ 32) (exchanged row.here.form item.pels) (omega (arith, wide, whole.width)) in
     let bits : item.bits < 2 ^ 32 = grind (arith, nat_tests, fact.bits) in

@@ -5,7 +5,7 @@ use Rattle.std.proofs.Common.{append-nil}
 use Rattle.std.specs.Prelude.{Option}
 use Rattle.fax_bits.specs.declared.Colour.{Colour}
 use Rattle.fax_bits.specs.Bits.{bits}
-use Rattle.fax_bits.specs.laws.Codes.{AreBitsByPlace}
+use Rattle.fax_bits.specs.laws.Codes.{AreBitsByIndex}
 use Rattle.fax_page.specs.declared.StripFault.{StripFault}
 use Rattle.fax_page.specs.declared.notes.NotesFault.{NotesFault}
 use Rattle.fax_page.specs.declared.notes.NotesFault.TheVariants.{Memory, Strip as RowOfStrip}
@@ -26,7 +26,7 @@ use Rattle.fax_walk.specs.declared.end.End.{End}
 use Rattle.fax_walk.specs.declared.end.End.TheVariants.{Fault}
 use Rattle.fax_walk.specs.laws.InOrder.{LeadTo}
 use Rattle.fax_walk.specs.Pages.{NextItem, ends_as}
-use Rattle.fax_walk.specs.Items.{RowItem, RowPlace, first_at, IsRow}
+use Rattle.fax_walk.specs.Items.{RowItem, RowPosition, first_at, IsRow}
 use Rattle.fax_walk.specs.Report.{notes_on_strip, IsStripNoted, IsNoted}
 use Rattle.fax_walk.specs.code.Opening.{IsPageOf}
 use Rattle.fax_walk.specs.code.Check.{before_strip, CheckPlace, HasChecked, IsDirectoryOfPage}
@@ -39,7 +39,7 @@ use Rattle.fax_walk.proofs.StripRowLemmas.{row_at, strip_rows, walked_length}
 
 -- a page that is checked, and what is known of bits and lines
 pub record IsPageToCheck (directory : TiffDirectory) (form : PageForm) (p : ℕ) : Type 0 where
-  pub by_place : AreBitsByPlace
+  pub by_place : AreBitsByIndex
   pub lines_read : LinesAreRead
   pub limits : IsPageForm form
   pub form_is : form_of directory ≡ Ok form
@@ -68,7 +68,7 @@ module _ (directory : TiffDirectory) (form : PageForm) (p : ℕ) (on : IsPageToC
 
   -- before a strip that the page has
   at_strip : (s : ℕ) → s < form.strips → before_strip form p s ≡ record { next = (p, Some s); row = first_at p (s * n) }
-  at_strip s due = grind (arith, whole)
+  at_strip s upcoming = grind (arith, whole)
 
   -- what is found on a strip
   noted_on : (s : ℕ) (answer : NextItem (List Note) (ℕ × Option ℕ))
@@ -81,10 +81,10 @@ module _ (directory : TiffDirectory) (form : PageForm) (p : ℕ) (on : IsPageToC
       → s < form.strips → Checks s old middle → bytes_of directory s ≡ Some bytes
       → IsNotedAs (strip_form form s) (bits form.order bytes) rows found → new ≡ middle ++ notes_on_strip p s found
       → Checks (s + 1) old new
-  strip_after s old middle new bytes rows found due so_far there is new_is =
+  strip_after s old middle new bytes rows found upcoming so_far there is new_is =
       let strip : IsStrip (strip_form form s) (bits form.order bytes) rows None =
-      record { left = is.left; lines = is.lines } in
-      let below = whole.needed s due in
+      record { remaining = is.remaining; lines = is.lines } in
+      let below = whole.needed s upcoming in
       let count = strip_count (strip_form form s) (bits form.order bytes) rows None strip in
       let total : min (s * n) form.rows + length rows ≡ min ((s + 1) * n) form.rows = omega (arith, count, below) in
       let place : s * n + length rows ≡ min ((s + 1) * n) form.rows = omega (arith, count, below) in
@@ -94,7 +94,7 @@ module _ (directory : TiffDirectory) (form : PageForm) (p : ℕ) (on : IsPageToC
       let to = rw place at read.there in
       let this : HasChecked file (before_strip form p s) (before_strip form p (s + 1)) (notes_on_strip p s found)
       (length rows) =
-      rw (at_strip s due) (record {
+      rw (at_strip s upcoming) (record {
         found = notes_on_strip p s found ∷ [];
         lead = ((before_strip form p (s + 1)).next, noted_on s _ (rw there (rows, found, is, refl, refl)), refl);
         notes_are = sym (append-nil (notes_on_strip p s found));
@@ -122,15 +122,16 @@ module _ (directory : TiffDirectory) (form : PageForm) (p : ℕ) (on : IsPageToC
 
   -- the page's rows end at a fault, after so many rows of a strip
   fault_after : (s rows : ℕ) (cause : Cause) (old new : List Note) → s < form.strips → s * n + rows < form.rows
-      → Checks s old new → (row : RowPlace) (items : List RowItem) → LeadTo (IsRow file) (first_at p (s * n)) items row
+      → Checks s old new → (row : RowPosition) (items : List RowItem)
+      → LeadTo (IsRow file) (first_at p (s * n)) items row
       → rows ≡ length items → IsStripNoted form p s (bytes_of directory s) (ends_as (Fault p (s * n + rows) cause))
       → IsRow file row (ends_as (Fault p (s * n + rows) cause))
       → Rest old new (record { rows = s * n + rows; fault = Some cause })
-  fault_after s rows cause old new due inside so_far row items lead count noted stop =
+  fault_after s rows cause old new upcoming inside so_far row items lead count noted stop =
       let total : min (s * n) form.rows + rows ≡ s * n + rows = omega (arith, inside) in
       let to : CheckPlace = record { next = (p, Some s); row = row } in
       let strip : HasChecked file (before_strip form p s) to [] rows =
-      rw (at_strip s due) (record {
+      rw (at_strip s upcoming) (record {
         found = [];
         lead = refl;
         notes_are = refl;
@@ -153,12 +154,13 @@ module _ (directory : TiffDirectory) (form : PageForm) (p : ℕ) (on : IsPageToC
   -- a strip does not lie in the file
   pub strip_outside : (s : ℕ) (old new : List Note) → s < form.strips → Checks s old new
       → bytes_of directory s ≡ None → Rest old new (record { rows = s * n; fault = Some (File StripOutside) })
-  strip_outside s old new due so_far none =
+  strip_outside s old new upcoming so_far none =
       let number = in_strip n s 0 (s * n) whole.some_in_strip (omega arith) in
       let end : End = Fault p (s * n) (File StripOutside) in
       let zero : s * n + 0 ≡ s * n = omega arith in
       rw zero at
-      (fault_after s 0 (File StripOutside) old new due (omega (arith, whole.needed s due)) so_far (first_at p (s * n))
+      (fault_after s 0 (File StripOutside) old new upcoming (omega (arith, whole.needed s upcoming)) so_far (first_at p
+      (s * n))
       [] refl refl
       (rw (none, zero) refl)
       (rw zero
@@ -169,28 +171,34 @@ module _ (directory : TiffDirectory) (form : PageForm) (p : ℕ) (on : IsPageToC
   -- the rows of a strip end at a fault inside the page
   inside_page : (s : ℕ) (bytes : List ℕ) (rows : List (List Colour)) (fault : StripFault) → s < form.strips
       → IsStrip (strip_form form s) (bits form.order bytes) rows (Some fault) → s * n + length rows < form.rows
-  inside_page s bytes rows fault due strip =
-      omega (arith, whole.needed s due, strip_count (strip_form form s) (bits form.order bytes) rows (Some fault) strip)
+  inside_page s bytes rows fault upcoming strip =
+      omega (
+        arith,
+        whole.needed s upcoming,
+        strip_count (strip_form form s) (bits form.order bytes) rows (Some fault)
+            strip,
+      )
 
   -- a row of a strip cannot be read, and the strip has no notes
   pub row_inside : (s : ℕ) (b : List ℕ) (fault : NotesFault) → s < form.strips
       → IsNotesFault (strip_form form s) (bits form.order b) fault → IsRowInside (s * n) fault
-  row_inside s b Memory due refused = tt
-  row_inside s b (RowOfStrip row fault) due (rows, row_is, strip) =
-      omega (arith, row_is, on.limits.rows, inside_page s b rows fault due strip)
+  row_inside s b Memory upcoming refused = tt
+  row_inside s b (RowOfStrip row fault) upcoming (rows, row_is, strip) =
+      omega (arith, row_is, on.limits.rows, inside_page s b rows fault upcoming strip)
 
   pub strip_fault : (s : ℕ) (old new : List Note) (b : List ℕ) (fault : NotesFault) (read : PageRead)
       → s < form.strips → Checks s old new → bytes_of directory s ≡ Some b
       → IsNotesFault (strip_form form s) (bits form.order b) fault → IsReadTo (s * n) fault read → Rest old new read
-  strip_fault s old new b Memory read due so_far there refused none = absurd none
-  strip_fault s old new b (RowOfStrip row fault) read due so_far there (rows, row_is, strip) read_is =
+  strip_fault s old new b Memory read upcoming so_far there refused none = absurd none
+  strip_fault s old new b (RowOfStrip row fault) read upcoming so_far there (rows, row_is, strip) read_is =
       let rows_read =
       strip_rows on.by_place on.lines_read file directory.endian directory.offset form p page whole s
-      (whole.needed s due) b there rows
+      (whole.needed s upcoming) b there rows
       (Some fault) strip in
       rw (read_is, ← row_is)
-      (fault_after s (length rows) (Strip fault) old new due (inside_page s b rows fault due strip) so_far rows_read.to
+      (fault_after s (length rows) (Strip fault) old new upcoming (inside_page s b rows fault upcoming strip) so_far
+      rows_read.to
       rows_read.items
       rows_read.lead (sym (walked_length file p (first_at p (s * n)) (s * n) (shown form rows) _ rows_read
       ∙ shown_length form rows))
-      (rw there (rows, fault, strip.left, strip.lines, refl)) rows_read.there)
+      (rw there (rows, fault, strip.remaining, strip.lines, refl)) rows_read.there)

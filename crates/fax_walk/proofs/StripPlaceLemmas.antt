@@ -1,4 +1,4 @@
--- Rows of a page in their strips, and as they are handed out.
+-- Rows of a page in their strips, and as they are returned.
 use Rattle.std.proofs.lemmas.Grind.{common_steps}
 use Rattle.std.proofs.Common.{◌≡◌, ℕ, ◌+◌, ◌*◌, ◌/◌, ◌%◌, ◌<◌, Bool, List, [], ◌∷◌, length, Option, Some, None, arith}
 use Rattle.std.proofs.lemmas.Nat.{div-mul-add, mod-mul-add}
@@ -30,12 +30,12 @@ IsCount (Some fault) n all = n < all
 
 counted : (form : StripForm) (i : ℕ) (reference : List Colour) (b : List Bool) (rows : List (List Colour))
     (end : Option StripFault)
-    (left : List Bool)
-    → AreLines form i reference b rows end left → IsCount end (i + length rows) form.rows
-counted form i reference b [] None left lines = omega (arith, lines.1)
-counted form i reference b [] (Some fault) left lines = omega (arith, lines.1)
-counted form i reference b (row ∷ rows) end left lines = grind
-    (arith, common_steps, counted form (i + 1) row lines.0 rows end left lines.3)
+    (remaining : List Bool)
+    → AreLines form i reference b rows end remaining → IsCount end (i + length rows) form.rows
+counted form i reference b [] None remaining lines = omega (arith, lines.1)
+counted form i reference b [] (Some fault) remaining lines = omega (arith, lines.1)
+counted form i reference b (row ∷ rows) end remaining lines = grind
+    (arith, common_steps, counted form (i + 1) row lines.0 rows end remaining lines.3)
 
 -- how many rows a strip has
 pub strip_count : (form : StripForm) (b : List Bool) (rows : List (List Colour)) (end : Option StripFault)

@@ -1,4 +1,4 @@
--- The rows of a strip are rows that a walk hands out, one after another.
+-- The rows of a strip are rows that a walk returns, one after another.
 use Rattle.std.proofs.lemmas.Grind.{common_steps}
 use Rattle.std.proofs.Common.{◌≡◌, ℕ, ◌+◌, ◌*◌, ◌<◌, ◌≤◌, Bool, List, [], ◌∷◌, map, length, drop}
 use Rattle.std.proofs.Common.{Option, Some, None}
@@ -8,7 +8,7 @@ use Rattle.std.proofs.lemmas.Bool.Decides.{nat_tests}
 use Rattle.std.proofs.lemmas.List.{length-map}
 use Rattle.fax_bits.specs.declared.Colour.{Colour}
 use Rattle.fax_bits.specs.Bits.{bits}
-use Rattle.fax_bits.specs.laws.Codes.{AreBitsByPlace}
+use Rattle.fax_bits.specs.laws.Codes.{AreBitsByIndex}
 use Rattle.fax_page.specs.declared.StripForm.{StripForm}
 use Rattle.fax_page.specs.declared.StripFault.{StripFault}
 use Rattle.fax_page.specs.Strip.{AreLines}
@@ -21,7 +21,8 @@ use Rattle.fax_files.specs.laws.TiffFiles.{shown, IsWholeForm}
 use Rattle.fax_walk.specs.declared.end.End.TheVariants.{Fault}
 use Rattle.fax_walk.specs.laws.InOrder.{LeadTo}
 use Rattle.fax_walk.specs.Pages.{NextItem, goes_on, ends_as}
-use Rattle.fax_walk.specs.Items.{RowItem, Inner, RowPlace, first_at, exchanged, before, IsInStrip, IsRow, place_after}
+use Rattle.fax_walk.specs.Items.{RowItem, StripPosition, RowPosition, first_at, exchanged, before, IsInStrip, IsRow}
+use Rattle.fax_walk.specs.Items.{place_after}
 use Rattle.fax_walk.specs.code.Opening.{IsPageOf}
 use Rattle.fax_walk.specs.code.RowPlaces.{first_on, place_on, strip_at}
 use Rattle.fax_walk.specs.laws.WrittenFiles.{WalkedRow, walked, numbered}
@@ -31,11 +32,11 @@ use Rattle.fax_walk.proofs.StripPlaceLemmas.{in_strip, shown_row}
 
 -- these rows of page p are read from a place on, the first of them with this number, and what they
 -- lead to is so
-pub record AreRead (file : List ℕ) (p : ℕ) (at : RowPlace) (r : ℕ) (rows : List (List Colour))
-    (reached : RowPlace → Type 0) : Type 0 where
+pub record AreRead (file : List ℕ) (p : ℕ) (at : RowPosition) (r : ℕ) (rows : List (List Colour))
+    (reached : RowPosition → Type 0) : Type 0 where
   pub items : List RowItem
   pub rows_are : map walked items ≡ numbered p r rows
-  pub to : RowPlace
+  pub to : RowPosition
   pub lead : LeadTo (IsRow file) at items to
   pub there : reached to
 
@@ -43,35 +44,35 @@ numbered_length : (p r : ℕ) (rows : List (List Colour)) → length (numbered p
 numbered_length p r [] = refl
 numbered_length p r (row ∷ rows) = omega (arith, numbered_length p (r + 1) rows)
 
-pub walked_length : (file : List ℕ) (p : ℕ) (at : RowPlace) (r : ℕ) (rows : List (List Colour))
-    (reached : RowPlace → Type 0)
+pub walked_length : (file : List ℕ) (p : ℕ) (at : RowPosition) (r : ℕ) (rows : List (List Colour))
+    (reached : RowPosition → Type 0)
     (read : AreRead file p at r rows reached) → length read.items ≡ length rows
 walked_length file p at r rows reached read = grind (arith, length-map, numbered_length)
 
 -- no rows are read
-pub none_read : (file : List ℕ) (p : ℕ) (form : PageForm) (at : RowPlace) (r : ℕ) (reached : RowPlace → Type 0)
+pub none_read : (file : List ℕ) (p : ℕ) (form : PageForm) (at : RowPosition) (r : ℕ) (reached : RowPosition → Type 0)
     → reached at
     → AreRead file p at r (shown form []) reached
 none_read file p form at r reached here = grind arith
 
-module _ (by_place : AreBitsByPlace) (lines_read : LinesAreRead) (file : List ℕ) (endian : Endian) (q : ℕ)
+module _ (by_place : AreBitsByIndex) (lines_read : LinesAreRead) (file : List ℕ) (endian : Endian) (q : ℕ)
     (form : PageForm) (p : ℕ)
     (page : IsPageOf file p (record { endian = endian; offset = q; form = form }))
     (whole : IsWholeForm form) where
   abbrev n : ℕ
   n = form.rows_per_strip
 
-  abbrev place_at : ℕ → Option Inner → RowPlace
+  abbrev place_at : ℕ → Option StripPosition → RowPosition
   place_at r inner = record { page = p; row = r; inner = inner }
 
   -- what is at a place, by what the file has of its strip
-  pub row_at : (r : ℕ) (inner : Option Inner) (found : Option (List ℕ)) (answer : NextItem RowItem RowPlace)
+  pub row_at : (r : ℕ) (inner : Option StripPosition) (found : Option (List ℕ)) (answer : NextItem RowItem RowPosition)
       → strip_bytes endian file q (strip_at form r) ≡ found → IsInStrip form (place_at r inner) found answer
       → IsRow file (place_at r inner) answer
   row_at r inner found answer e is = rw (page r, e) is
 
   -- the rows of a strip lead to the next one, or to the row that is not there
-  abbrev pub Reaches : Option StripFault → ℕ → RowPlace → Type 0
+  abbrev pub Reaches : Option StripFault → ℕ → RowPosition → Type 0
   Reaches None r to = to ≡ first_on form p r
   Reaches (Some fault) r to = IsRow file to (ends_as (Fault p r (Strip fault)))
 
@@ -84,29 +85,31 @@ module _ (by_place : AreBitsByPlace) (lines_read : LinesAreRead) (file : List �
       all = bits form.order bytes
 
       -- before the strip's first row
-      abbrev first : Inner
+      abbrev first : StripPosition
       first = before form.width None
 
       -- after the strip's last row
-      after_strip : (inner : Inner) (r : ℕ) → r ≡ s * n + strip.rows → place_on form p r inner ≡ first_on form p r
+      after_strip : (inner : StripPosition) (r : ℕ) → r ≡ s * n + strip.rows → place_on form p r inner
+          ≡ first_on form p r
       after_strip inner r r_is = grind (arith, common_steps, cases_lt, nat_tests, in_strip, at_first, at_end)
 
       -- the rows from row i of the strip on
-      lines_from : (inner : Inner) (r i : ℕ) (own : List (List Colour)) (stop : Option StripFault) (left : List Bool)
+      lines_from : (inner : StripPosition) (r i : ℕ) (own : List (List Colour)) (stop : Option StripFault) (remaining :
+          List Bool)
           → r ≡ s * n + i → i ≤ strip.rows → (i ≡ 0 → inner ≡ first)
-          → AreLines strip i inner.reference (drop inner.bits all) own stop left
+          → AreLines strip i inner.reference (drop inner.bits all) own stop remaining
           → AreRead file p (place_on form p r inner) r (shown form own) (Reaches stop (r + length own))
-      lines_from inner r i [] None left r_is within begins lines = grind (arith, none_read, after_strip)
-      lines_from inner r i [] (Some fault) left r_is within begins lines =
+      lines_from inner r i [] None remaining r_is within begins lines = grind (arith, none_read, after_strip)
+      lines_from inner r i [] (Some fault) remaining r_is within begins lines =
           let number = numbers form p s i r inner r_is lines.1 in
           let at = due_at form p s i r inner r_is lines.1 begins in
           let none : r + 0 ≡ r = omega arith in
           none_read file p form _ r (Reaches (Some fault) (r + 0))
           (rw (none, at.1) (row_at r at.0 (Some bytes) (ends_as (Fault p r (Strip fault))) (rw number.0 bytes_are)
           (fault, rw (number.1, at.2) lines.2, refl)))
-      lines_from inner r i (row ∷ rows) stop left r_is within begins (rest, due, line, more) =
-          let number = numbers form p s i r inner r_is due in
-          let at = due_at form p s i r inner r_is due begins in
+      lines_from inner r i (row ∷ rows) stop remaining r_is within begins (rest, upcoming, line, more) =
+          let number = numbers form p s i r inner r_is upcoming in
+          let at = due_at form p s i r inner r_is upcoming begins in
           let from = (lines_read strip i inner.reference).rest all inner.bits row rest line in
           let item : RowItem = record { page = p; form = form; row = r; pels = exchanged form row; bits = from.0 } in
           let twice = exchanged_twice form row in
@@ -121,9 +124,10 @@ module _ (by_place : AreBitsByPlace) (lines_read : LinesAreRead) (file : List �
             refl,
           ) in
           let later =
-          lines_from (record { bits = from.0; reference = exchanged form item.pels }) (r + 1) (i + 1) rows stop left
+          lines_from (record { bits = from.0; reference = exchanged form item.pels }) (r + 1) (i + 1) rows stop
+          remaining
           (omega (arith, r_is))
-          (omega (arith, due)) (λ none. absurd (omega arith)) (rw (twice, from.2) more) in
+          (omega (arith, upcoming)) (λ none. absurd (omega arith)) (rw (twice, from.2) more) in
           let count : r + length (row ∷ rows) ≡ r + 1 + length rows = omega arith in
           rw (at.1, shown_row form row rows, count) (record {
             items = item ∷ later.items;
@@ -139,4 +143,4 @@ module _ (by_place : AreBitsByPlace) (lines_read : LinesAreRead) (file : List �
       strip_rows rows stop is =
           let number = in_strip n s 0 (s * n) whole.some_in_strip (omega arith) in
           rw (at_first form p (s * n) first below number.1) at
-          (lines_from first (s * n) 0 rows stop is.left (omega arith) (omega arith) (λ none. refl) is.lines)
+          (lines_from first (s * n) 0 rows stop is.remaining (omega arith) (omega arith) (λ none. refl) is.lines)

@@ -5,7 +5,7 @@ use Rattle.std.specs.Prelude.{nat_lt}
 use Rattle.std.proofs.lemmas.Bool.Decides.{nat_tests}
 use Rattle.std.specs.List.{AllZip}
 use Rattle.fax_bits.specs.declared.Colour.{Colour}
-use Rattle.fax_bits.specs.laws.Codes.{AreBitsByPlace}
+use Rattle.fax_bits.specs.laws.Codes.{AreBitsByIndex}
 use Rattle.fax_files.specs.declared.Endian.TheVariants.{Little}
 use Rattle.fax_files.specs.Directory.{Header, header, read_chain}
 use Rattle.fax_files.specs.Page.{page}
@@ -14,7 +14,7 @@ use Rattle.fax_files.specs.Layout.{WrittenPage, file_of}
 use Rattle.fax_files.specs.laws.TiffFiles.{IsWritable, AreWritable, IsReadAt, WrittenFilesAreRead, WrittenRowsAreRead}
 use Rattle.fax_files.specs.laws.TiffFiles.{FormsAreWhole}
 use Rattle.fax_walk.specs.declared.cursor.Cursor.{Cursor}
-use Rattle.fax_walk.specs.declared.end.End.TheVariants.{Proper}
+use Rattle.fax_walk.specs.declared.end.End.TheVariants.{EndOfPages}
 use Rattle.fax_walk.specs.Pages.{AreFrom, IsForm, chain_end, page_with_form, read_page}
 use Rattle.fax_walk.specs.Items.{RowItem, first_at, IsRow}
 use Rattle.fax_walk.specs.laws.WrittenFiles.{WalkedRow, walked, numbered, HoldsPageRows, rows_of, forms_of}
@@ -30,10 +30,10 @@ use Rattle.fax_walk.proofs.StripRowLemmas.{AreRead}
 module _ (file : List ℕ) (head : Header) (is : header file ≡ Ok head) (offsets : List ℕ)
     (chain : read_chain head file ≡ record { offsets = offsets; end = None }) where
   proper_after : (p : ℕ) → drop p offsets ≡ [] → p ≡ length offsets
-      → read_page file (record { page = p; row = 0 }) ≡ Err Proper
+      → read_page file (record { page = p; row = 0 }) ≡ Err EndOfPages
   proper_after p e all =
       let at : Cursor = record { page = p; row = 0 } in
-      let proper : chain_end (length offsets) None at ≡ Proper =
+      let proper : chain_end (length offsets) None at ≡ EndOfPages =
       ap (λ (n : ℕ). chain_end n None at) (sym all) ∙ proper_end p in
       rw (chain, proper) at (no_page file head is at (rw chain e))
 
@@ -41,13 +41,13 @@ module _ (file : List ℕ) (head : Header) (is : header file ≡ Ok head) (offse
       → read_page file (record { page = p; row = r }) ≡ page_with_form head.endian q p (page head.endian file q)
   page_there p q later e r = some_page file head is (record { page = p; row = r }) q later (rw chain e)
 
--- rows that are handed out, and then the rows end properly
+-- rows that are returned, and then the rows end properly
 pub record AreAllFrom (file : List ℕ) (p : ℕ) (rows : List WalkedRow) : Type 0 where
   pub items : List RowItem
-  pub are : AreFrom (IsRow file) (first_at p 0) items Proper
+  pub are : AreFrom (IsRow file) (first_at p 0) items EndOfPages
   pub rows_are : map walked items ≡ rows
 
-module _ (by_place : AreBitsByPlace) (lines_read : LinesAreRead) (wholes : FormsAreWhole) (law : WrittenRowsAreRead)
+module _ (by_place : AreBitsByIndex) (lines_read : LinesAreRead) (wholes : FormsAreWhole) (law : WrittenRowsAreRead)
     (file : List ℕ) (head : Header)
     (is : header file ≡ Ok head) (little : head.endian ≡ Little) (offsets : List ℕ)
     (chain : read_chain head file ≡ record { offsets = offsets; end = None }) where
@@ -84,7 +84,7 @@ module _ (by_place : AreBitsByPlace) (lines_read : LinesAreRead) (wholes : Forms
       holds.1 in
       record {
         items = here.items ++ more.items;
-        are = joined (IsRow file) (first_at p 0) here.to here.items more.items Proper here.lead
+        are = joined (IsRow file) (first_at p 0) here.to here.items more.items EndOfPages here.lead
             (rw here.there more.are);
         rows_are =
             map-append walked here.items more.items ∙ ap (λ (l : List WalkedRow). l ++ map walked more.items)
@@ -94,7 +94,7 @@ module _ (by_place : AreBitsByPlace) (lines_read : LinesAreRead) (wholes : Forms
 
   forms_read : (later : List ℕ) (p : ℕ) (pages : List WrittenPage) → drop p offsets ≡ later
       → p + length later ≡ length offsets
-      → AllZip (IsReadAt file) later pages → AreFrom (IsForm file) p (forms_of p pages) Proper
+      → AllZip (IsReadAt file) later pages → AreFrom (IsForm file) p (forms_of p pages) EndOfPages
   forms_read [] p [] e count read = rw (proper_after file head is offsets chain p e (omega (arith, count))) refl
   forms_read [] p (written ∷ pages) e count read = absurd read
   forms_read (q ∷ later) p [] e count read = absurd read
@@ -106,7 +106,7 @@ module _ (by_place : AreBitsByPlace) (lines_read : LinesAreRead) (wholes : Forms
       )
 
 -- the law of written files
-pub written_files_are_walked : AreBitsByPlace → LinesAreRead → FormsAreWhole → WrittenFilesAreRead → WrittenRowsAreRead
+pub written_files_are_walked : AreBitsByIndex → LinesAreRead → FormsAreWhole → WrittenFilesAreRead → WrittenRowsAreRead
     → WrittenFilesAreWalked
 written_files_are_walked by_place lines_read wholes files law pages rows some few writable holds short =
     let file = file_of pages in

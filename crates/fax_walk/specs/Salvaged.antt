@@ -15,7 +15,7 @@ use Rattle.fax_files.specs.Directory.{header, read_chain}
 use Rattle.fax_files.specs.BytesInside.{bytes_inside}
 use Rattle.fax_files.specs.Page.{page, strip_bytes, strip_form}
 use Rattle.fax_walk.specs.Pages.{Cause, File, Strip, FilePage, PageForm}
-use Rattle.fax_walk.specs.Items.{Inner, exchanged}
+use Rattle.fax_walk.specs.Items.{StripPosition, exchanged}
 
 -- a row of a page: it is found, with these pels, or lost, for this cause
 abbrev pub PageRow : Type 0
@@ -41,10 +41,10 @@ strip_left here file s = elim (strip_bytes here.endian file here.offset s) [
 -- what is left of strip s of a page
 abbrev pub IsStripLeft : List ℕ → FilePage → ℕ → List PageRow → Type 0
 IsStripLeft file here s rows =
-    let left = strip_left here file s in
+    let remaining = strip_left here file s in
     (own : List SalvagedRow)
-    × IsSalvagedStrip (strip_form here.form s) (bits here.form.order left.0) own
-    × (rows ≡ map (on_page here.form left.1) own)
+    × IsSalvagedStrip (strip_form here.form s) (bits here.form.order remaining.0) own
+    × (rows ≡ map (on_page here.form remaining.1) own)
 
 -- what is left of a page from strip s on: the rows of each strip (TIFF 6.0, RowsPerStrip)
 abbrev pub AreStripsLeft : List ℕ → FilePage → ℕ → List (List PageRow) → Type 0
@@ -52,7 +52,7 @@ AreStripsLeft file here s [] = s ≡ here.form.strips
 AreStripsLeft file here s (rows ∷ strips) =
     (s < here.form.strips) × IsStripLeft file here s rows × AreStripsLeft file here (s + 1) strips
 
--- the rows that are left of a page: those of all its strips
+-- the remaining rows of a page: those of all its strips
 abbrev pub AreRowsOfPage : List ℕ → FilePage → List PageRow → Type 0
 AreRowsOfPage file here rows =
     (strips : List (List PageRow)) × AreStripsLeft file here 0 strips
@@ -67,14 +67,14 @@ pub record IsRowOfStrip (form : PageForm) (r s i : ℕ) : Type 0 where
 -- what is left of a page from row i of strip s on, where it is read after so many bits of the
 -- strip and over this row, which is not lost: the rows of the strip from there on, and those of the
 -- strips after it
-abbrev pub AreRowsFrom : List ℕ → FilePage → ℕ → ℕ → Inner → List PageRow → Type 0
+abbrev pub AreRowsFrom : List ℕ → FilePage → ℕ → ℕ → StripPosition → List PageRow → Type 0
 AreRowsFrom file here s i at rows =
-    let left = strip_left here file s in
+    let remaining = strip_left here file s in
     (own : List SalvagedRow) × (strips : List (List PageRow))
     × AreSalvaged (strip_form here.form s) i None at.reference
-    (drop at.bits (bits here.form.order left.0)) own
+    (drop at.bits (bits here.form.order remaining.0)) own
     × AreStripsLeft file here (s + 1) strips
-    × (rows ≡ map (on_page here.form left.1) own ++ flat_map (λ rows. rows) strips)
+    × (rows ≡ map (on_page here.form remaining.1) own ++ flat_map (λ rows. rows) strips)
 
 -- what becomes of a row of a strip with no file around it
 abbrev pub strip_row : SalvagedRow → PageRow
@@ -82,33 +82,33 @@ strip_row (found row) = Ok row
 strip_row (lost fault) = Err (Strip fault)
 strip_row (unended row) = Err (Strip MissingEol)
 
--- the rows that are left of a strip with no file around it
+-- the remaining rows of a strip with no file around it
 abbrev pub AreRowsOfStrip : StripForm → List Bool → List PageRow → Type 0
 AreRowsOfStrip form b rows =
     (own : List SalvagedRow) × IsSalvagedStrip form b own × (rows ≡ map strip_row own)
 
--- what is handed out of a file in order: row r of page p, which is found; so many rows of page p
--- from row r on, which are lost, with the cause of the first; a page that is refused
-pub data LeftItem : Type 0 where
-  row_found : ℕ → ℕ → List Colour → LeftItem
-  rows_lost : ℕ → ℕ → ℕ → Cause → LeftItem
-  page_refused : ℕ → FileFault → LeftItem
+-- what is returned of a file in order: row r of page p, which is found; so many rows of page p from
+-- row r on, which are lost, with the cause of the first; a page that is refused
+pub data SalvagedItem : Type 0 where
+  row_found : ℕ → ℕ → List Colour → SalvagedItem
+  rows_lost : ℕ → ℕ → ℕ → Cause → SalvagedItem
+  page_refused : ℕ → FileFault → SalvagedItem
 
 -- row r of page p is lost for this cause, before these items: it is one stretch with the rows that
 -- are lost after it
-abbrev pub lost_before : ℕ → ℕ → Cause → List LeftItem → List LeftItem
+abbrev pub lost_before : ℕ → ℕ → Cause → List SalvagedItem → List SalvagedItem
 lost_before p r cause (rows_lost _ _ count _ ∷ items) = rows_lost p r (count + 1) cause ∷ items
 lost_before p r cause items = rows_lost p r 1 cause ∷ items
 
--- the rows of page p from row r on, as they are handed out
-abbrev pub page_items : ℕ → ℕ → List PageRow → List LeftItem
+-- the rows of page p from row r on, as they are returned
+abbrev pub page_items : ℕ → ℕ → List PageRow → List SalvagedItem
 page_items p r [] = []
 page_items p r (Ok row ∷ rows) = row_found p r row ∷ page_items p (r + 1) rows
 page_items p r (Err cause ∷ rows) = lost_before p r cause (page_items p (r + 1) rows)
 
--- what is handed out of page p, whose directory stands at offset q, with the form or the fault that
+-- what is returned of page p, whose directory stands at offset q, with the form or the fault that
 -- its fields give
-abbrev pub IsPageLeftAs : Endian → List ℕ → ℕ → ℕ → Result PageForm FileFault → List LeftItem
+abbrev pub IsPageLeftAs : Endian → List ℕ → ℕ → ℕ → Result PageForm FileFault → List SalvagedItem
     → Type 0
 IsPageLeftAs endian file p q (Err fault) items = items ≡ page_refused p fault ∷ []
 IsPageLeftAs endian file p q (Ok form) items =
@@ -116,15 +116,15 @@ IsPageLeftAs endian file p q (Ok form) items =
     (strips : List (List PageRow)) × AreStripsLeft file here 0 strips
     × (items ≡ page_items p 0 (flat_map (λ rows. rows) strips))
 
--- what is handed out from page p on, where the directories from there on stand at these offsets
-abbrev pub ArePagesLeft : Endian → List ℕ → ℕ → List ℕ → List LeftItem → Type 0
+-- what is returned from page p on, where the directories from there on stand at these offsets
+abbrev pub ArePagesLeft : Endian → List ℕ → ℕ → List ℕ → List SalvagedItem → Type 0
 ArePagesLeft endian file p [] items = items ≡ []
 ArePagesLeft endian file p (q ∷ offsets) items =
-    (own others : List LeftItem) × IsPageLeftAs endian file p q (page endian file q) own
+    (own others : List SalvagedItem) × IsPageLeftAs endian file p q (page endian file q) own
     × ArePagesLeft endian file (p + 1) offsets others × (items ≡ own ++ others)
 
 -- what is left of a file; of one without a good header nothing
-abbrev pub IsSalvaged : List ℕ → List LeftItem → Type 0
+abbrev pub IsSalvaged : List ℕ → List SalvagedItem → Type 0
 IsSalvaged file items =
     MatchResult (header file)
     (λ head. ArePagesLeft head.endian file 0 (read_chain head file).offsets items)

@@ -1,11 +1,11 @@
--- What speaks of this code alone: what a walk still hands out.
+-- What speaks of this code alone: what a walk still returns.
 pub mod Opening
 pub mod Stages
 pub mod Walk
 pub mod LongText
 pub mod Pages
-pub mod Parts
-pub mod OpenStrips
+pub mod SparseBytes
+pub mod StripsWriter
 pub mod Output
 pub mod Check
 pub mod Sources
@@ -14,4 +14,4 @@ pub mod SalvageItems
 pub mod SalvagePage
 pub mod SalvageFile
 pub mod ShownRows
-pub mod RowsLeft
+pub mod SalvagedRows

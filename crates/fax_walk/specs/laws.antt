@@ -1,11 +1,11 @@
 pub mod InOrder
 pub mod Tails
 pub mod Cursors
-pub mod Left
+pub mod RowSource
 pub mod Printed
 pub mod FormsLeft
 pub mod WrittenFiles
 pub mod ReadBack
 pub mod Answers
 pub mod Salvaged
-pub mod RowsLeft
+pub mod SalvagedRows

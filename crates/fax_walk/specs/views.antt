@@ -1,9 +1,9 @@
 pub mod InOrder
 pub mod Walk
 pub mod Pages
-pub mod Parts
+pub mod SparseBytes
 pub mod Lent
 pub mod SalvageItems
-pub mod RowsLeft
+pub mod SalvagedRows
 pub mod RowsFrom
 pub mod Converting

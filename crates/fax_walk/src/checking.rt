@@ -83,8 +83,8 @@ pub struct Report {
     pub pages: u64,
     /// How many rows were read.
     pub rows: u64,
-    /// The first fault, with the place of the row that was due there: row 0 for a fault of the
-    /// header, of a directory or of a field.
+    /// The first fault, with the place of the next row there: row 0 for a fault of the header, of a
+    /// directory or of a field.
     pub fault: Option<(Place, Cause)>,
 }
 
@@ -178,7 +178,7 @@ fn check_strips(
         (Code.before_strip form.now page 0)
         page notes.old.items notes.new.items) }
 {
-    fax_bits::laws::bits_stand_by_place();
+    fax_bits::laws::bits_stand_by_index();
     fax_page::laws::lines_are_read_in_one_way();
     let mut reader = NotesReader::new(alloc, form.width)?;
     for s in 0..form.strips {
@@ -233,8 +233,8 @@ fn check_pages(alloc: Global, tiff: Tiff) -> Result<Report, Memory>
     requires { header tiff.file ≡ Ok tiff.head }
     ensures { IfOk result (Spec.IsReport tiff.entry.file) }
 {
-    // It does not go by a walk, which hands out rows and not their bits. What it counts are the
-    // items of the same definition (`AreItems`).
+    // It does not go by a walk, which returns rows and not their bits. What it counts are the items
+    // of the same definition (`AreItems`).
     let mut chain = Chain::new(tiff);
     let mut report = Report {
         notes: Vec::new(alloc),
@@ -243,7 +243,7 @@ fn check_pages(alloc: Global, tiff: Tiff) -> Result<Report, Memory>
         fault: None,
     };
     loop {
-        let page = chain.given();
+        let page = chain.yielded();
         report.pages = u64::from(page);
         let directory = match chain.next() {
             Ok(Some(directory)) => directory,

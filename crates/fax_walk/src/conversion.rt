@@ -1,6 +1,6 @@
 //! A file of pages turned into another: raw PBM or TIFF, into either of them.
 ghost use Rattle.std.specs.Prelude.{◌≡◌, ◌≢◌, IfOk, IfErr, OnOk, codes};
-ghost use Rattle.fax_bits.specs.Bits.{BeginsWith};
+ghost use Rattle.fax_bits.specs.Bits.{StartsWith};
 ghost use Rattle.fax_walk.specs.Converted as Spec;
 ghost use Rattle.fax_walk.specs.Items.{RowItem};
 ghost use Rattle.fax_walk.specs.code.Output.{IsPartWritten, IsPutTo, Part};
@@ -11,16 +11,20 @@ ghost use Rattle.fax_walk.specs.code.Sources as Reads;
 use crate::image_conversion::ImageConversion;
 use crate::options::{ConvertFault, Options};
 use crate::output::Output;
-use crate::parts::Parts;
-use crate::sheet::Sheet;
+use crate::page_size::PageSize;
+use crate::parts::SparseBytes;
 use crate::walk::LastRow;
 use crate::{Walk, WalkFault};
 use fax_bits::Memory;
 use std::alloc::Global;
 
 /// Converts images.
-fn convert_images(alloc: Global, bytes: &[u8], options: &Options) -> Result<Parts, ConvertFault>
-    requires { BeginsWith bytes.now (codes "P4") }
+fn convert_images(
+    alloc: Global,
+    bytes: &[u8],
+    options: &Options,
+) -> Result<SparseBytes, ConvertFault>
+    requires { StartsWith bytes.now (codes "P4") }
     ensures ok { IfOk result (λ output. Spec.IsConverted bytes.now options.now output) }
     ensures err { IfErr result (λ fault. fault ≢ ConvertFault.Memory
         → Spec.IsNotConverted bytes.now options.now fault) }
@@ -48,14 +52,14 @@ fn begin_page(
     output: &mut Output,
 ) -> Result<(), Memory>
     requires limits { IsPageForm last.now.form.now }
-    requires due { (part : Part) × Reads.IsLentDue options.now output.old last.now part }
-    ensures { OnOk result ((part : Part) → Reads.IsLentDue options.now output.old last.now part
+    requires upcoming { (part : Part) × Reads.IsLentUpcoming options.now output.old last.now part }
+    ensures { OnOk result ((part : Part) → Reads.IsLentUpcoming options.now output.old last.now part
         → IsPartWritten output.new part) }
 {
     if last.place.row > 0 {
         return Ok(());
     }
-    output.begin(alloc, options, &Sheet::of_form(last.form))
+    output.begin(alloc, options, &PageSize::of_form(last.form))
 }
 
 /// Puts a row that is lent on its page.
@@ -67,8 +71,8 @@ fn put_lent(
     output: &mut Output,
 ) -> Result<(), Memory>
     requires limits { IsPageForm last.now.form.now }
-    requires due { (part : Part) × Reads.IsLentDue options.now output.old last.now part }
-    ensures { OnOk result ((part : Part) → Reads.IsLentDue options.now output.old last.now part
+    requires upcoming { (part : Part) × Reads.IsLentUpcoming options.now output.old last.now part }
+    ensures { OnOk result ((part : Part) → Reads.IsLentUpcoming options.now output.old last.now part
         → IsPutTo output.new (with_row part last.now.row.now)) }
 {
     begin_page(alloc, last, options, output)?;
@@ -79,7 +83,7 @@ fn put_lent(
     Ok(())
 }
 
-/// Puts the row that a walk handed out last on its page.
+/// Puts the row that a walk returned last on its page.
 #[inline(always)]
 fn put_last_row(
     alloc: Global,
@@ -87,9 +91,9 @@ fn put_last_row(
     options: &Options,
     output: &mut Output,
 ) -> Result<(), Memory>
-    requires untold { walk.now.told ≡ None }
-    requires due { (item : RowItem) × (part : Part)
-        × Reads.IsItemDue options.now walk.now output.old item part }
+    requires untold { walk.now.final_end ≡ None }
+    requires upcoming { (item : RowItem) × (part : Part)
+        × Reads.IsUpcomingItem options.now walk.now output.old item part }
     ensures { OnOk result (Reads.PutsLast options.now walk.now output.old output.new) }
 {
     // A reader of pages beside the walk would give the page's form too, but reads each directory
@@ -102,7 +106,7 @@ fn put_last_row(
 }
 
 /// Converts a TIFF file.
-fn convert_file(alloc: Global, file: &[u8], options: &Options) -> Result<Parts, ConvertFault>
+fn convert_file(alloc: Global, file: &[u8], options: &Options) -> Result<SparseBytes, ConvertFault>
     requires { Spec.IsTiff file.now }
     ensures ok { IfOk result (λ output. Spec.IsConverted file.now options.now output) }
     ensures err { IfErr result (λ fault. fault ≢ ConvertFault.Memory
@@ -129,7 +133,11 @@ fn convert_file(alloc: Global, file: &[u8], options: &Options) -> Result<Parts, 
 ///
 /// `UnknownInput` where it begins with none of them; else the first fault of the source, and then
 /// `OutputTooLarge`. `Memory` where a growth was refused.
-pub fn convert_parts(alloc: Global, bytes: &[u8], options: &Options) -> Result<Parts, ConvertFault>
+pub fn convert_sparse(
+    alloc: Global,
+    bytes: &[u8],
+    options: &Options,
+) -> Result<SparseBytes, ConvertFault>
     ensures ok { IfOk result (λ output. Spec.IsConverted bytes.now options.now output) }
     ensures err { IfErr result (λ fault. fault ≢ ConvertFault.Memory
         → Spec.IsNotConverted bytes.now options.now fault) }
@@ -143,16 +151,16 @@ pub fn convert_parts(alloc: Global, bytes: &[u8], options: &Options) -> Result<P
     }
 }
 
-/// The bytes of what `convert_parts` answers, all of them held.
+/// The bytes of what `convert_sparse` answers, all of them held.
 ///
 /// # Errors
 ///
-/// As `convert_parts`.
+/// As `convert_sparse`.
 pub fn convert(alloc: Global, bytes: &[u8], options: &Options) -> Result<Vec<u8>, ConvertFault>
     ensures ok { IfOk result (λ output. Spec.IsConverted bytes.now options.now output.items) }
     ensures err { IfErr result (λ fault. fault ≢ ConvertFault.Memory
         → Spec.IsNotConverted bytes.now options.now fault) }
 {
-    let parts = convert_parts(alloc, bytes, options)?;
+    let parts = convert_sparse(alloc, bytes, options)?;
     Ok(parts.into_bytes(alloc)?)
 }

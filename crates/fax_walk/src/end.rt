@@ -7,24 +7,24 @@ use thiserror::Error;
 #[derive(Clone, Copy, Debug, PartialEq, Eq)]
 pub enum End {
     /// After the last page.
-    Proper,
-    /// At a fault, with the place of the row that was due there: row 0 for a fault of the header,
-    /// of a directory or of a field.
+    EndOfPages,
+    /// At a fault, with the place of the next row there: row 0 for a fault of the header, of a
+    /// directory or of a field.
     Fault { page: u32, row: u32, cause: Cause },
     /// The cursor names no row of the file and no place after one.
     Outside,
 }
 
-/// Why a walk hands out no row, or a reader of pages no page.
+/// Why a walk returns no row, or a reader of pages no page.
 #[derive(Clone, Copy, Debug, PartialEq, Eq, Error)]
 pub enum WalkFault {
     /// A growth was refused. The walk is as it was, and the call may be made again.
     #[error("out of memory")]
     Memory,
-    /// The fault that ends the rows, with the place of the row that was due. It is answered again.
+    /// The fault that ends the rows, with the place of the next row. It is returned again.
     #[error("page {page} row {row}: {cause}")]
     AtRow { page: u32, row: u32, cause: Cause },
-    /// The cursor names no row of the file and no place after one. It is answered again.
+    /// The cursor names no row of the file and no place after one. It is returned again.
     #[error("the cursor is outside the file")]
     CursorOutside,
 }
@@ -35,19 +35,19 @@ impl End {
     ghost use Rattle.fax_files.specs.declared.Cause.TheVariants.{File};
     ghost use Rattle.fax_walk.specs.declared.end.End.TheVariants.{Fault};
 
-    /// What a call answers that goes on to what comes next, where that has ended so: that there is
+    /// What a call returns that advances to what comes next, where that has ended so: that there is
     /// nothing, or the fault.
     pub(crate) fn answer(self) -> Result<bool, WalkFault>
         ensures { result ≡ answer_of self }
     {
         match self {
-            End::Proper => Ok(false),
+            End::EndOfPages => Ok(false),
             End::Fault { page, row, cause } => Err(WalkFault::AtRow { page, row, cause }),
             End::Outside => Err(WalkFault::CursorOutside),
         }
     }
 
-    /// The end at a fault of the file, where this row of a page was due.
+    /// The end at a fault of the file, at this row of a page.
     pub(crate) fn of_file(page: u32, row: u32, fault: FileFault) -> End
         ensures { result ≡ Fault page row (File fault) }
     {

@@ -1,17 +1,17 @@
 //! Raw PBM that is converted as its bytes come.
 ghost use Rattle.std.specs.Prelude.{◌≡◌, ◌≢◌, ◌+◌, ◌<◌, ◌≤◌, ◌^◌, ◌++◌, ℕ, List, [], length, take};
 ghost use Rattle.std.specs.Prelude.{IfOk, IfErr, OnOk, Option, codes};
-ghost use Rattle.fax_bits.specs.Bits.{BeginsWith};
+ghost use Rattle.fax_bits.specs.Bits.{StartsWith};
 ghost use Rattle.fax_files.specs.declared.pbm.PbmFault.{PbmFault};
 ghost use Rattle.fax_walk.specs.Converted as Spec;
-ghost use Rattle.fax_walk.specs.code.Output.{IsPageDue};
+ghost use Rattle.fax_walk.specs.code.Output.{IsUpcomingPage};
 ghost use Rattle.fax_walk.specs.code.Sources as Reads;
 ghost use Rattle.fax_walk.specs.views.Converting.{IsConverting, IsLeftBy, Progress};
 
 use crate::options::{ConvertFault, Options};
 use crate::output::Output;
-use crate::parts::Parts;
-use crate::sheet::Sheet;
+use crate::page_size::PageSize;
+use crate::parts::SparseBytes;
 use fax_bits::Memory;
 use fax_files::{PbmFault, PbmImage, PbmReader};
 use fax_rows::Row;
@@ -24,13 +24,13 @@ fn convert_image(
     options: &Options,
     output: &mut Output,
 ) -> Result<(), Memory>
-    requires { (at : Progress) × IsPageDue options.now output.old at }
+    requires { (at : Progress) × IsUpcomingPage options.now output.old at }
     ensures { OnOk result
         (Reads.PutsImage options.now output.old image.now.width image.now.rows image.now.raster.now
         output.new) }
 {
     fax_rows::laws::packing_undoes_unpacking();
-    output.begin(alloc, options, &Sheet::of_image(image))?;
+    output.begin(alloc, options, &PageSize::of_image(image))?;
     if let Output::TooLarge = output {
         return Ok(());
     }
@@ -60,7 +60,7 @@ impl ImageConversion {
     ///
     /// `Memory` where a growth was refused.
     pub fn new(alloc: Global, options: Options) -> Result<Self, Memory>
-        ensures begun { IfOk result (λ new. IsConverting [] options new.images new.output) }
+        ensures origin { IfOk result (λ new. IsConverting [] options new.images new.output) }
         ensures options { IfOk result (λ new. new.options ≡ options) }
     {
         Ok(ImageConversion {
@@ -71,9 +71,9 @@ impl ImageConversion {
         })
     }
 
-    /// Takes the images that stand whole at the start of the bytes, and answers how many bytes they
-    /// have: what is left is nothing, or begins with no whole image. All bytes that are given are
-    /// fewer than 2^64.
+    /// Decodes the images that stand whole at the start of the bytes, and returns how many bytes
+    /// they have: what is left is nothing, or begins with no whole image. All bytes that are given
+    /// are fewer than 2^64.
     ///
     /// # Errors
     ///
@@ -83,7 +83,7 @@ impl ImageConversion {
         requires { (before : List ℕ)
             × IsConverting before self.old.options self.old.images self.old.output
             × (length before + length bytes.now < 2 ^ 64) }
-        ensures left { IfOk result (λ taken. (fault : Option PbmFault)
+        ensures remaining { IfOk result (λ taken. (fault : Option PbmFault)
             × IsLeftBy bytes.now taken fault) }
         ensures so_far { IfOk result (λ taken. (before : List ℕ)
             → IsConverting before self.old.options self.old.images self.old.output
@@ -95,8 +95,8 @@ impl ImageConversion {
         Ok(taken)
     }
 
-    /// Takes the images that stand whole at the start of the bytes, and answers how many bytes they
-    /// have, and the fault of the image after them, if bytes are left.
+    /// Decodes the images that stand whole at the start of the bytes, and returns how many bytes
+    /// they have, and the fault of the image after them, if bytes are left.
     fn take_whole(&mut self, bytes: &[u8]) -> Result<(usize, Option<PbmFault>), Memory>
         requires { (before : List ℕ)
             × IsConverting before self.old.options self.old.images self.old.output
@@ -116,7 +116,7 @@ impl ImageConversion {
                     self.images += 1;
                 }
                 Ok(None) => return Ok((bytes.len(), None)),
-                Err(fault) => return Ok((bytes.len() - reader.left().len(), Some(fault))),
+                Err(fault) => return Ok((bytes.len() - reader.remaining().len(), Some(fault))),
             }
         }
     }
@@ -127,16 +127,16 @@ impl ImageConversion {
     /// # Errors
     ///
     /// The first fault of an image; else `OutputTooLarge`. `Memory` where a growth was refused.
-    pub fn finish(mut self, rest: &[u8]) -> Result<Parts, ConvertFault>
+    pub fn finish(mut self, rest: &[u8]) -> Result<SparseBytes, ConvertFault>
         requires { (before : List ℕ) × IsConverting before self.options self.images self.output
             × (length before + length rest.now < 2 ^ 64) }
         ensures ok { IfOk result (λ output. (before : List ℕ)
             → IsConverting before self.options self.images self.output
-            → BeginsWith (before ++ rest.now) (codes "P4")
+            → StartsWith (before ++ rest.now) (codes "P4")
             → Spec.IsConverted (before ++ rest.now) self.options output) }
         ensures err { IfErr result (λ fault. fault ≢ ConvertFault.Memory → (before : List ℕ)
             → IsConverting before self.options self.images self.output
-            → BeginsWith (before ++ rest.now) (codes "P4")
+            → StartsWith (before ++ rest.now) (codes "P4")
             → Spec.IsNotConverted (before ++ rest.now) self.options fault) }
     {
         match self.take_whole(rest)? {

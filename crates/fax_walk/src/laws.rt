@@ -7,15 +7,15 @@ ghost use Rattle.fax_walk.specs.laws.Answers as AnswerLaws;
 ghost use Rattle.fax_walk.specs.laws.Cursors as CursorLaws;
 ghost use Rattle.fax_walk.specs.laws.FormsLeft.{AreFormsLeft};
 ghost use Rattle.fax_walk.specs.laws.Tails as PageLaws;
-ghost use Rattle.fax_walk.specs.laws.Left.{IsLeft};
+ghost use Rattle.fax_walk.specs.laws.RowSource.{IsLeft};
 ghost use Rattle.fax_walk.specs.laws.Printed as PrintedLaws;
-ghost use Rattle.fax_walk.specs.laws.RowsLeft.{AreLeftFromPlaces, AreLeftOneWay, PagesAreLeft};
+ghost use Rattle.fax_walk.specs.laws.SalvagedRows.{AreLeftFromPlaces, AreLeftOneWay, PagesAreLeft};
 ghost use Rattle.fax_walk.specs.laws.Salvaged.{IsSalvagedOneWay};
 ghost use Rattle.fax_walk.specs.laws.ReadBack as ReadBackLaws;
 ghost use Rattle.fax_walk.specs.Items.{RowItem};
 ghost use Rattle.fax_walk.specs.laws.WrittenFiles as WrittenLaws;
 ghost use Rattle.fax_walk.specs.declared.end.End.{End};
-ghost use Rattle.fax_walk.specs.views.RowsLeft.{LeftOf};
+ghost use Rattle.fax_walk.specs.views.SalvagedRows.{LeftOf};
 
 use crate::{Pages, Walk};
 
@@ -24,7 +24,7 @@ use crate::{Pages, Walk};
 pub fn written_files_are_walked()
     ensures { WrittenLaws.WrittenFilesAreWalked }
 {
-    fax_bits::laws::bits_stand_by_place();
+    fax_bits::laws::bits_stand_by_index();
     fax_page::laws::lines_are_read_in_one_way();
     fax_files::laws::forms_are_whole();
     fax_files::laws::written_files_are_read();
@@ -44,7 +44,7 @@ pub fn coded_files_are_walked()
 pub(crate) fn files_are_paged()
     ensures { FilesArePaged }
 {
-    fax_bits::laws::bits_stand_by_place();
+    fax_bits::laws::bits_stand_by_index();
     fax_page::laws::lines_are_read_in_one_way();
     fax_files::laws::files_have_one_chain();
     fax_files::laws::forms_are_whole();
@@ -78,25 +78,25 @@ pub fn answers_are_one()
     tails_go_on();
 }
 
-/// Each walk has rows that are due, and an end, also where it has handed out some.
+/// Each walk has rows that are expected, and an end, also where it has returned some.
 pub fn walks_have_items(walk: &Walk)
     ensures { (items : List RowItem) × (end : End) × IsLeft walk.now items end }
 {
-    walk.items_are_left();
+    walk.lemma_items_left();
 }
 
-/// Each reader of pages has pages that are left, and an end, also where it has handed out some.
+/// Each reader of pages has pages that are left, and an end, also where it has returned some.
 pub fn pages_have_forms(pages: &Pages)
     ensures { (forms : List FormItem) × (end : End) × AreFormsLeft pages.now forms end }
 {
-    pages.forms_are_left();
+    pages.lemma_forms_left();
 }
 
 /// Whatever a walk begins with has a tail and an end, and one only.
 pub fn beginnings_have_one_tail()
     ensures { PageLaws.BeginningsHaveOneTail }
 {
-    fax_bits::laws::bits_stand_by_place();
+    fax_bits::laws::bits_stand_by_index();
     fax_page::laws::lines_are_read_in_one_way();
     fax_files::laws::files_have_one_chain();
     fax_files::laws::forms_are_whole();
@@ -123,8 +123,7 @@ pub fn form_tails_are_one()
     fax_files::laws::files_have_one_chain();
 }
 
-/// Each page that a reader hands out is the first of what was left of it, and then the rest is
-/// left.
+/// Each page that a reader returns is the first of what was left of it, and then the rest is left.
 pub fn pages_go_on()
     ensures forms { PageLaws.FormsLeftGoOn }
     ensures ends { PageLaws.FormsLeftEnd }
@@ -145,26 +144,26 @@ pub fn tails_go_on()
     ensures same { PageLaws.ItemsStandByPlace }
     ensures ends { PageLaws.TailsEndAfter }
 {
-    fax_bits::laws::bits_stand_by_place();
+    fax_bits::laws::bits_stand_by_index();
     fax_page::laws::lines_are_read_in_one_way();
     fax_files::laws::files_have_one_chain();
     fax_files::laws::forms_are_whole();
 }
 
-/// A walk from what was printed hands out just the rest of a file's items, each once. Each file has
+/// A walk from what was printed returns just the rest of a file's items, each once. Each file has
 /// items and an end, and one list of them only, and they ascend. A walk that begins with the first
 /// cursor, or with the cursor or the place inside a strip that was printed after item number n,
-/// hands out what follows that item and the same end, and prints what such a walk prints. Before
-/// its first row it reads again only the rows before its beginning in its strip.
-pub fn walks_hand_out_the_rest()
+/// returns what follows that item and the same end, and prints what such a walk prints. Before its
+/// first row it reads again only the rows before its beginning in its strip.
+pub fn walks_return_the_rest()
     ensures one { PrintedLaws.FilesHaveOneList }
     ensures ends { PrintedLaws.ItemsEndInTheFile }
     ensures ascend { PrintedLaws.ItemsAscend }
-    ensures rest { PrintedLaws.WalksHandOutTheRest }
+    ensures rest { PrintedLaws.WalksReturnTheRest }
     ensures begin { PrintedLaws.WalksBeginThere }
     ensures next { PrintedLaws.WalksGoOn }
     ensures good { PrintedLaws.EndsAreForGood }
-    ensures left { PrintedLaws.TheRestIsLeft }
+    ensures remaining { PrintedLaws.TheRestIsLeft }
     ensures cursor { PrintedLaws.CursorsArePrinted }
     ensures place { PrintedLaws.PlacesArePrinted }
     ensures read { PrintedLaws.RowsAreReadOnce }
@@ -185,9 +184,9 @@ pub fn cursors_are_named()
     fax_files::laws::forms_are_whole();
 }
 
-/// What a walk still hands out is one list with one end. Its first is item number `given` of what
-/// the walk hands out in all. Each item that it hands out is the first of it, and what is left is
-/// the tail from the walk's cursor, and from its place inside a strip.
+/// What a walk still returns is one list with one end. Its first is item number `yielded` of what
+/// the walk returns in all. Each item that it returns is the first of it, and what is left is the
+/// tail from the walk's cursor, and from its place inside a strip.
 pub fn walks_go_on()
     ensures one { PageLaws.LeftIsOne }
     ensures number { PageLaws.LeftIsNumber }
@@ -200,7 +199,7 @@ pub fn walks_go_on()
     tails_go_on();
 }
 
-/// What is left of a file is handed out in one way: there is one list of rows that are found, of
+/// What is left of a file is returned in one way: there is one list of rows that are found, of
 /// stretches that are lost and of pages that are refused.
 pub fn files_are_salvaged_in_one_way()
     ensures { (file : List ℕ) → IsSalvagedOneWay file }

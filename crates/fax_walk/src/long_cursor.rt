@@ -3,7 +3,7 @@ ghost use Rattle.std.specs.Prelude.{◌≡◌, ◌≢◌, ℕ, ◌++◌, ◌<◌
 ghost use Rattle.std.specs.Prelude.{IfOk, IfErr, OnOk, OnErr, decimal};
 ghost use Rattle.std.specs.List.{All};
 ghost use Rattle.std.specs.String.{string_bytes};
-ghost use Rattle.fax_walk.specs.Pages.{LongPlace, IsLongCursor, long_cursor_text, runs_text};
+ghost use Rattle.fax_walk.specs.Pages.{LongCursorValue, IsLongCursor, long_cursor_text, runs_text};
 ghost use Rattle.fax_walk.specs.code.LongText.{IsNumberCut};
 
 use crate::cursor::{Cursor, number};
@@ -16,7 +16,7 @@ use thiserror::Error;
 /// What a long cursor's text begins with, before the first colon.
 const VERSION: u32 = 2;
 
-/// Where to go on inside a strip: a cursor, how many bits of the strip stand before its row, and
+/// Where to continue inside a strip: a cursor, how many bits of the strip stand before its row, and
 /// the runs of the row before it, before any exchange of colours.
 // Runs are short for most rows, and say the row whole. That a list is the runs of a row is tested
 // before it is taken, so that a forged cursor is outside and nothing else.
@@ -29,9 +29,9 @@ pub struct LongCursor {
 
 impl Model for LongCursor {
     ghost use Rattle.std.specs.Prelude.{⊤};
-    ghost use Rattle.fax_walk.specs.Pages.{LongPlace};
+    ghost use Rattle.fax_walk.specs.Pages.{LongCursorValue};
 
-    ghost Value = { LongPlace };
+    ghost Value = { LongCursorValue };
 
     ghost view = { λ c. record { at = c.at; bits = c.bits; runs = c.runs.items } };
 
@@ -50,7 +50,7 @@ pub enum LongFault {
 }
 
 /// The number before the first colon, and what stands after it.
-fn cut_number(text: &str) -> Option<(u32, &str)>
+fn split_number(text: &str) -> Option<(u32, &str)>
     ensures { IsNumberCut text.now result }
 {
     let (digits, rest) = text.split_once(':')?;
@@ -132,18 +132,18 @@ impl LongCursor {
         ensures ok { IfOk result (λ cursor. text.now ≡ long_cursor_text cursor) }
         ensures range { IfOk result (λ cursor. IsLongCursor cursor) }
         ensures err { IfErr result (λ fault. fault ≡ LongFault.NotACursor
-            → (place : LongPlace) → IsLongCursor place → text.now ≢ long_cursor_text place) }
+            → (place : LongCursorValue) → IsLongCursor place → text.now ≢ long_cursor_text place) }
     {
-        let Some((version, place)) = cut_number(text) else {
+        let Some((version, place)) = split_number(text) else {
             return Err(LongFault::NotACursor);
         };
-        let Some((page, place)) = cut_number(place) else {
+        let Some((page, place)) = split_number(place) else {
             return Err(LongFault::NotACursor);
         };
-        let Some((row, place)) = cut_number(place) else {
+        let Some((row, place)) = split_number(place) else {
             return Err(LongFault::NotACursor);
         };
-        let Some((bits, runs)) = cut_number(place) else {
+        let Some((bits, runs)) = split_number(place) else {
             return Err(LongFault::NotACursor);
         };
         if version != VERSION {

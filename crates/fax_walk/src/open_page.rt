@@ -6,10 +6,10 @@ ghost use Rattle.std.specs.Prelude.{OnErr, OnOk, Err};
 ghost use Rattle.fax_rows.specs.Rows.{other};
 ghost use Rattle.fax_page.specs.views.Strip.{IsStripForm};
 ghost use Rattle.fax_files.specs.views.Page.{IsPageForm};
-ghost use Rattle.fax_walk.specs.Items.{IsRow, exchanged, first_at, inner_at};
+ghost use Rattle.fax_walk.specs.Items.{IsRow, exchanged, first_at, position_at};
 ghost use Rattle.fax_walk.specs.code.RowPlaces.{row_in_strip};
 ghost use Rattle.fax_walk.specs.code.RowPlaces.{cursor_at};
-ghost use Rattle.fax_walk.specs.Items.{IsInnerOn, long_at};
+ghost use Rattle.fax_walk.specs.Items.{IsPositionOn, long_at};
 ghost use Rattle.fax_walk.specs.code.RowPlaces.{strip_at};
 ghost use Rattle.fax_walk.specs.code.Opening.{IsFileChain, page_with};
 ghost use Rattle.fax_walk.specs.views.Walk.{HasPage, place_inside};
@@ -20,11 +20,11 @@ ghost use Rattle.fax_walk.specs.declared.end.End.TheVariants.{Fault};
 ghost use Rattle.fax_walk.specs.code.Stages as Spec;
 ghost use Rattle.fax_walk.specs.code.Stages.{place_of, row_of};
 
-use crate::opening::{DuePage, OpenFault};
-use crate::{Cursor, End, LongCursor, PlaceInside};
+use crate::opening::{OpenFault, UnopenedPage};
+use crate::{Cursor, End, LongCursor, LongCursorRef};
 use fax_bits::Memory;
 use fax_files::{Cause, Chain, FileFault, PageForm, Strips};
-use fax_page::{RowBefore, StripForm, StripReader};
+use fax_page::{ReferenceRow, StripForm, StripReader};
 use fax_rows::Row;
 use std::alloc::Global;
 use std::marker::Model;
@@ -37,12 +37,12 @@ pub(crate) struct OpenPage<'a> {
     chain: Chain<'a>,
     form: PageForm,
     strips: Strips<'a>,
-    /// The first row that is handed out. Those before it in its strip are read for it alone.
+    /// The first row that is returned. Those before it in its strip are read for it alone.
     first: u32,
     /// The number of the strip that is read.
     number: u32,
     strip: StripReader<'a>,
-    /// Where colours are exchanged, if they are: the row that was read last, as it is handed out.
+    /// Where colours are exchanged, if they are: the row that was read last, as it is returned.
     exchanged: Option<Row>,
     /// How many rows the walk read before it opened the page.
     before: u64,
@@ -82,7 +82,7 @@ pub(crate) fn row_for_exchange(alloc: Global, form: &PageForm) -> Result<Option<
     }
 }
 
-/// Takes the pels of another row of the same width, with their colours exchanged.
+/// Decodes the pels of another row of the same width, with their colours exchanged.
 #[inline(never)]
 pub(crate) fn set_exchanged(row: &mut Row, from: &Row)
     requires { length from.now ≡ length row.old }
@@ -92,37 +92,37 @@ pub(crate) fn set_exchanged(row: &mut Row, from: &Row)
     row.exchange();
 }
 
-/// Opens a page that is due, at the strip that holds the first row that is handed out. So many
-/// rows were read before.
+/// Opens the next page, at the strip that holds the first row that is returned. So many rows were
+/// read before.
 pub(crate) fn open<'a>(
     alloc: Global,
-    due: DuePage<'a>,
+    upcoming: UnopenedPage<'a>,
     first: u32,
     before: u64,
 ) -> Result<OpenPage<'a>, OpenFault>
-    requires there { first < due.form.rows }
-    requires few { before ≤ due.page * most_rows }
-    ensures opened { IfOk result (Spec.IsOpenedAt due.entry.directory.file
-        (first_at due.entry.page (strip_at due.entry.form first * due.entry.form.rows_per_strip))
-        (row_in_strip due.entry.form first) before) }
-    ensures page { IfOk result (λ page. page.page ≡ due.entry.page) }
+    requires there { first < upcoming.form.rows }
+    requires few { before ≤ upcoming.page * most_rows }
+    ensures opened { IfOk result (Spec.IsOpenedAt upcoming.entry.directory.file
+        (first_at upcoming.entry.page (strip_at upcoming.entry.form first * upcoming.entry.form.rows_per_strip))
+        (row_in_strip upcoming.entry.form first) before) }
+    ensures page { IfOk result (λ page. page.page ≡ upcoming.entry.page) }
     ensures first { IfOk result (λ page. page.first ≡ first) }
-    ensures refused { IfErr result (Spec.IsRefusal (Spec.IsNoStrip due.entry first)) }
-    ensures there { HasPage due.entry.directory.file due.entry.page }
+    ensures refused { IfErr result (Spec.IsRefusal (Spec.IsNoStrip upcoming.entry first)) }
+    ensures there { HasPage upcoming.entry.directory.file upcoming.entry.page }
 {
-    let form = due.form;
-    let strips = due.strips;
+    let form = upcoming.form;
+    let strips = upcoming.strips;
     let number = first / form.rows_per_strip;
     let row = number * form.rows_per_strip;
     let bytes = match strips.bytes(number) {
         Ok(bytes) => bytes,
-        Err(fault) => return Err(OpenFault::Ended(End::of_file(due.page, row, fault))),
+        Err(fault) => return Err(OpenFault::Ended(End::of_file(upcoming.page, row, fault))),
     };
     let strip = StripReader::new(alloc, bytes, form.strip_form(number))?;
     let exchanged = row_for_exchange(alloc, &form)?;
     Ok(OpenPage {
-        page: due.page,
-        chain: due.chain,
+        page: upcoming.page,
+        chain: upcoming.chain,
         form,
         strips,
         first,
@@ -133,24 +133,24 @@ pub(crate) fn open<'a>(
     })
 }
 
-/// Opens the page after the directories that a chain has handed out, at its first row. So many
-/// rows were read before.
+/// Opens the page after the directories that a chain has returned, at its first row. So many rows
+/// were read before.
 pub(crate) fn open_after<'a>(
     alloc: Global,
     chain: &Chain<'a>,
     before: u64,
 ) -> Result<OpenPage<'a>, OpenFault>
     requires chain { IsFileChain chain.now }
-    requires few { before ≤ chain.now.given * most_rows }
+    requires few { before ≤ chain.now.yielded * most_rows }
     ensures opened { IfOk result
-        (Spec.IsOpenedAt chain.now.tiff.file (first_at chain.now.given 0) 0 before) }
+        (Spec.IsOpenedAt chain.now.tiff.file (first_at chain.now.yielded 0) 0 before) }
     ensures refused { IfErr result (Spec.IsRefusal (λ end.
-        IsRow chain.now.tiff.file (first_at chain.now.given 0) (ends_as end))) }
-    ensures there { result ≡ Err NoMemory → HasPage chain.now.tiff.file chain.now.given }
+        IsRow chain.now.tiff.file (first_at chain.now.yielded 0) (ends_as end))) }
+    ensures there { result ≡ Err NoMemory → HasPage chain.now.tiff.file chain.now.yielded }
 {
-    match DuePage::after(chain.again())? {
-        Some(due) => open(alloc, due, 0, before),
-        None => Err(OpenFault::Ended(End::Proper)),
+    match UnopenedPage::after(chain.fork())? {
+        Some(upcoming) => open(alloc, upcoming, 0, before),
+        None => Err(OpenFault::Ended(End::EndOfPages)),
     }
 }
 
@@ -168,37 +168,37 @@ fn strip_at<'a>(
     ensures ok { IfOk result (Spec.IsAtPlace form bytes.now row place.now) }
     ensures err { IfErr result (Spec.IsNoPlace form bytes.now place.now) }
 {
-    let before = RowBefore::Runs(&place.runs);
+    let before = ReferenceRow::Runs(&place.runs);
     Ok(StripReader::inside(alloc, bytes, form, row, place.bits, before)?)
 }
 
-/// Opens a page that is due at a place inside a strip of it.
+/// Opens the next page at a place inside a strip of it.
 pub(crate) fn open_inside<'a>(
     alloc: Global,
-    due: DuePage<'a>,
+    upcoming: UnopenedPage<'a>,
     place: &LongCursor,
 ) -> Result<OpenPage<'a>, OpenFault>
-    requires { due.page ≡ place.now.at.page }
+    requires { upcoming.page ≡ place.now.at.page }
     ensures opened { IfOk result
-        (Spec.IsOpenedAt due.entry.directory.file (inner_at place.now) 0 0) }
-    ensures inner { OnOk result (IsInnerOn due.entry.directory.file
-        (page_with due.entry.directory due.entry.form) place.now) }
-    ensures refused { IfErr result (Spec.IsRefusal (Spec.IsNoInner due.entry place.now)) }
-    ensures within { result ≡ Err NoMemory → place.now.at.row < due.entry.form.rows }
+        (Spec.IsOpenedAt upcoming.entry.directory.file (position_at place.now) 0 0) }
+    ensures inner { OnOk result (IsPositionOn upcoming.entry.directory.file
+        (page_with upcoming.entry.directory upcoming.entry.form) place.now) }
+    ensures refused { IfErr result (Spec.IsRefusal (Spec.IsNoInner upcoming.entry place.now)) }
+    ensures within { result ≡ Err NoMemory → place.now.at.row < upcoming.entry.form.rows }
 {
     fax_files::laws::forms_are_whole();
-    let form = due.form;
+    let form = upcoming.form;
     let row = place.at.row;
     if row >= form.rows || row % form.rows_per_strip == 0 {
         return Err(OpenFault::Ended(End::Outside));
     }
-    let strips = due.strips;
+    let strips = upcoming.strips;
     let number = row / form.rows_per_strip;
     let strip_row = number * form.rows_per_strip;
     let bytes = match strips.bytes(number) {
         Ok(bytes) => bytes,
         Err(fault) => {
-            return Err(OpenFault::Ended(End::of_file(due.page, strip_row, fault)));
+            return Err(OpenFault::Ended(End::of_file(upcoming.page, strip_row, fault)));
         }
     };
     let strip = strip_at(
@@ -210,8 +210,8 @@ pub(crate) fn open_inside<'a>(
     )?;
     let exchanged = row_for_exchange(alloc, &form)?;
     Ok(OpenPage {
-        page: due.page,
-        chain: due.chain,
+        page: upcoming.page,
+        chain: upcoming.chain,
         form,
         strips,
         first: row,
@@ -236,9 +236,9 @@ impl<'a> OpenPage<'a> {
         open_after(alloc, &self.chain, self.rows_read())
     }
 
-    /// The number of the row that is due, or how many rows the page has, once all are read.
-    fn due(&self) -> u32
-        ensures due { result ≡ row_of self.now }
+    /// The number of the next row, or how many rows the page has, once all are read.
+    fn upcoming_row(&self) -> u32
+        ensures upcoming { result ≡ row_of self.now }
         ensures within { result ≤ self.now.form.rows }
     {
         self.number * self.form.rows_per_strip + self.strip.row()
@@ -247,18 +247,18 @@ impl<'a> OpenPage<'a> {
     /// Whether all rows of the page are read.
     fn is_read(&self) -> bool
         ensures read { result ≡ true → row_of self.now ≡ self.now.form.rows }
-        ensures due { result ≡ false → row_of self.now < self.now.form.rows }
+        ensures upcoming { result ≡ false → row_of self.now < self.now.form.rows }
     {
-        self.due() == self.form.rows
+        self.upcoming_row() == self.form.rows
     }
 
-    /// The place of the row that is due, or the one after the last row.
+    /// The place of the next row, or the one after the last row.
     pub(crate) fn cursor(&self) -> Cursor
         ensures { result ≡ record { page = self.now.page; row = row_of self.now } }
     {
         Cursor {
             page: self.page,
-            row: self.due(),
+            row: self.upcoming_row(),
         }
     }
 
@@ -269,9 +269,9 @@ impl<'a> OpenPage<'a> {
         self.before + self.strip.rows_read()
     }
 
-    /// The place inside the strip after the row that was read last, if the strip goes on after
+    /// The place inside the strip after the row that was read last, if the strip continues after
     /// it, and its bits have a number of 32 bits.
-    pub(crate) fn lend_place(&self) -> Option<PlaceInside<'_>>
+    pub(crate) fn long_cursor_ref(&self) -> Option<LongCursorRef<'_>>
         ensures { let at = place_of self.now in
             place_inside result ≡ long_at (cursor_at at) at.inner }
     {
@@ -283,7 +283,7 @@ impl<'a> OpenPage<'a> {
         let Ok(bits) = u32::try_from(place) else {
             return None;
         };
-        Some(PlaceInside {
+        Some(LongCursorRef {
             at: self.cursor(),
             bits,
             reference: self.strip.reference(),
@@ -299,7 +299,7 @@ impl<'a> OpenPage<'a> {
         ensures { IfOk result (λ place. let at = place_of self.now in
             place ≡ long_at (cursor_at at) at.inner) }
     {
-        let Some(place) = self.lend_place() else {
+        let Some(place) = self.long_cursor_ref() else {
             return Ok(None);
         };
         Ok(Some(LongCursor {
@@ -309,13 +309,13 @@ impl<'a> OpenPage<'a> {
         }))
     }
 
-    /// Goes to the next strip, and answers whether it lies in the file.
+    /// Goes to the next strip, and returns whether it lies in the file.
     #[cold]
     #[inline(never)]
     fn next_strip(&mut self) -> bool
         requires open { Spec.IsOpen self.old }
         requires all_read { self.old.strip.row ≡ self.old.strip.form.rows }
-        requires due { row_of self.old < self.old.form.rows }
+        requires upcoming { row_of self.old < self.old.form.rows }
         ensures keeps { Spec.KeepsPlace self.old self.new }
         ensures there { result ≡ true → Spec.IsNextStrip self.old self.new }
         ensures outside { result ≡ false → Spec.StopsAtRow self.old
@@ -346,9 +346,9 @@ impl<'a> OpenPage<'a> {
         }
     }
 
-    /// Reads the row that is due, and answers whether there was one, or how the rows end there.
+    /// Reads the next row, and returns whether there was one, or how the rows end there.
     #[inline(always)]
-    fn read_due(&mut self) -> Result<bool, End>
+    fn read_upcoming(&mut self) -> Result<bool, End>
         requires { Spec.IsOpen self.old }
         ensures ok { IfOk result (λ some. Spec.ReadsRowOrNone some self.old self.new) }
         ensures keeps { OnErr result (Spec.KeepsPlace self.old self.new) }
@@ -365,13 +365,13 @@ impl<'a> OpenPage<'a> {
                 Ok(false) => {
                     if !self.next_strip() {
                         let outside = FileFault::StripOutside;
-                        return Err(End::of_file(self.page, self.due(), outside));
+                        return Err(End::of_file(self.page, self.upcoming_row(), outside));
                     }
                 }
                 Err(fault) => {
                     return Err(End::Fault {
                         page: self.page,
-                        row: self.due(),
+                        row: self.upcoming_row(),
                         cause: Cause::Strip(fault),
                     });
                 }
@@ -379,7 +379,7 @@ impl<'a> OpenPage<'a> {
         }
     }
 
-    /// Reads on to the next row that is handed out, and answers whether there was one, or how the
+    /// Reads on to the next row that is returned, and returns whether there was one, or how the
     /// rows end before it.
     #[inline(always)]
     pub(crate) fn next_row(&mut self) -> Result<bool, End>
@@ -388,10 +388,10 @@ impl<'a> OpenPage<'a> {
         ensures err { IfErr result (λ end. Spec.GivesNone self.old end self.new) }
     {
         'rows: loop {
-            if !self.read_due()? {
+            if !self.read_upcoming()? {
                 return Ok(false);
             }
-            if self.due() > self.first {
+            if self.upcoming_row() > self.first {
                 return Ok(true);
             }
         }
@@ -405,7 +405,7 @@ impl<'a> OpenPage<'a> {
         &self.form
     }
 
-    /// The row that was read last, as it is handed out.
+    /// The row that was read last, as it is returned.
     pub(crate) fn row(&self) -> &Row
         ensures { result.now ≡ self.now.shown }
     {

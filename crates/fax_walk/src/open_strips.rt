@@ -3,7 +3,7 @@ ghost use Rattle.std.specs.Prelude.{◌≡◌, ◌<◌, ◌++◌, [], ◌∷◌,
 ghost use Rattle.fax_bits.specs.declared.Colour.{Colour};
 ghost use Rattle.fax_page.specs.views.Strip.{IsStripForm};
 ghost use Rattle.fax_files.specs.views.Page.{IsPageForm};
-ghost use Rattle.fax_walk.specs.code.OpenStrips as Spec;
+ghost use Rattle.fax_walk.specs.code.StripsWriter as Spec;
 
 use fax_bits::Memory;
 use fax_files::PageForm;
@@ -13,7 +13,7 @@ use std::alloc::Global;
 
 /// A page of a TIFF file that is being written: the strips that are whole, and the one that is not.
 #[derive(Drop)]
-pub(crate) struct OpenStrips {
+pub(crate) struct StripsWriter {
     alloc: Global,
     pub(crate) form: PageForm,
     k: u32,
@@ -22,14 +22,14 @@ pub(crate) struct OpenStrips {
     rows: u32,
 }
 
-impl OpenStrips {
+impl StripsWriter {
     /// Before the first row.
     pub(crate) fn new(alloc: Global, form: PageForm, k: u32) -> Self
         requires limits { IsPageForm form }
         requires some_k { 0 < k }
         ensures { Spec.HasPutRows form k [] result }
     {
-        OpenStrips {
+        StripsWriter {
             alloc,
             form,
             k,
@@ -54,7 +54,7 @@ impl OpenStrips {
     #[inline(always)]
     fn open_strip(&mut self, strip: u32) -> Result<(), Memory>
         requires number { strip ≡ length self.old.done.items }
-        requires due { (row : List Colour) × Spec.TakesRow self.old row }
+        requires upcoming { (row : List Colour) × Spec.TakesRow self.old row }
         ensures { OnOk result (Spec.OpensStrip self.old self.new) }
     {
         fax_page::laws::strips_are_written_row_by_row();

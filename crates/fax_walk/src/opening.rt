@@ -51,9 +51,9 @@ impl From<End> for OpenFault {
     }
 }
 
-/// A page that is due, and none of whose strips is read yet.
+/// The next page, and none of whose strips is read yet.
 #[derive(Drop)]
-pub(crate) struct DuePage<'a> {
+pub(crate) struct UnopenedPage<'a> {
     pub(crate) page: u32,
     /// The chain after the page's directory.
     pub(crate) chain: Chain<'a>,
@@ -61,10 +61,10 @@ pub(crate) struct DuePage<'a> {
     pub(crate) strips: Strips<'a>,
 }
 
-impl<'a> Model for DuePage<'a> {
-    ghost use Rattle.fax_walk.specs.code.Opening.{PageDue, IsPageDue};
+impl<'a> Model for UnopenedPage<'a> {
+    ghost use Rattle.fax_walk.specs.code.Opening.{UpcomingPage, IsUpcomingPage};
 
-    ghost Value = { PageDue };
+    ghost Value = { UpcomingPage };
 
     ghost view = { λ p. record {
       page = p.page;
@@ -73,7 +73,7 @@ impl<'a> Model for DuePage<'a> {
       form = p.form;
     } };
 
-    ghost invariant = { λ p. IsPageDue p.page p.chain p.strips p.form };
+    ghost invariant = { λ p. IsUpcomingPage p.page p.chain p.strips p.form };
 }
 
 /// The chain of a file's directories, before the one of this number, or how the rows end where
@@ -97,21 +97,21 @@ pub(crate) fn chain_before<'a>(file: &'a [u8], page: u32) -> Result<Chain<'a>, E
     Ok(chain)
 }
 
-impl<'a> DuePage<'a> {
-    /// The page that is due after the directories that a chain has handed out, or none after the
-    /// last one, or the fault in its place.
+impl<'a> UnopenedPage<'a> {
+    /// The next page after the directories that a chain has returned, or none after the last one,
+    /// or the fault in its place.
     pub(crate) fn after(mut chain: Chain<'a>) -> Result<Option<Self>, End>
         requires { Spec.IsFileChain chain }
         ensures { Spec.IsPageAnswer chain.entry result }
     {
-        let page = chain.given();
+        let page = chain.yielded();
         let directory = match chain.next() {
             Ok(Some(directory)) => directory,
             Ok(None) => return Ok(None),
             Err(fault) => return Err(End::of_file(page, 0, fault)),
         };
         match directory.page_and_strips() {
-            Ok((form, strips)) => Ok(Some(DuePage {
+            Ok((form, strips)) => Ok(Some(UnopenedPage {
                 page,
                 chain,
                 form,
@@ -128,7 +128,7 @@ impl<'a> DuePage<'a> {
         ensures err { IfErr result (Spec.EndsAt file.now cursor) }
     {
         let chain = chain_before(file, cursor.page)?;
-        let Some(page) = DuePage::after(chain)? else {
+        let Some(page) = UnopenedPage::after(chain)? else {
             return if cursor.row == 0 {
                 Ok(None)
             } else {

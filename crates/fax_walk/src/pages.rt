@@ -5,7 +5,7 @@ ghost use Rattle.fax_walk.specs.Pages.{FormItem, IsForm, IsFormTail};
 ghost use Rattle.fax_walk.specs.code.Opening.{IsFileChain};
 ghost use Rattle.fax_walk.specs.code.Pages as Spec;
 
-use crate::opening::DuePage;
+use crate::opening::UnopenedPage;
 use crate::{Cursor, End, WalkFault};
 use fax_files::{Chain, PageForm};
 use std::marker::Model;
@@ -15,23 +15,23 @@ use std::marker::Model;
 enum PagesStage<'a> {
     /// Nothing is read yet.
     Before,
-    /// The page after these directories is due.
+    /// The page after these directories is expected.
     After(Chain<'a>),
     /// The pages have ended.
     Ended(End),
 }
 
 /// A reader of a file's pages, without their strips. Contracts see its file, the cursor that it
-/// began with, how many pages it handed out, and how the pages ended, once it told that. It takes
+/// began with, how many pages it returned, and how the pages ended, once it reported that. It takes
 /// no memory.
-// It counts what it handed out, so that its contract can say page number `given`; its view has no
+// It counts what it returned, so that its contract can say page number `yielded`; its view has no
 // stage. It takes no memory, so that its `WalkFault` is never `Memory`.
 #[derive(Drop)]
 pub struct Pages<'a> {
     file: &'a [u8],
-    begun: Cursor,
-    /// How many pages were handed out.
-    given: u32,
+    origin: Cursor,
+    /// How many pages were returned.
+    yielded: u32,
     /// The cursor after the last of them, or the one that the reader began with.
     cursor: Cursor,
     stage: PagesStage<'a>,
@@ -39,41 +39,41 @@ pub struct Pages<'a> {
 
 impl<'a> Model for Pages<'a> {
     ghost use Rattle.fax_walk.specs.views.Pages.{PagesView};
-    ghost use Rattle.fax_walk.specs.code.Pages.{IsSoundReader, told_of};
+    ghost use Rattle.fax_walk.specs.code.Pages.{IsSoundReader, final_end_of};
 
     ghost Value = { PagesView };
 
     ghost view = { λ p. record {
       file = p.file.now;
-      begun = p.begun;
-      given = p.given;
-      told = told_of p.stage;
+      origin = p.origin;
+      yielded = p.yielded;
+      final_end = final_end_of p.stage;
     } };
 
-    ghost invariant = { λ p. IsSoundReader p.file.now p.begun p.given p.cursor p.stage };
+    ghost invariant = { λ p. IsSoundReader p.file.now p.origin p.yielded p.cursor p.stage };
 }
 
-/// The page after the directories that a chain has handed out, or how the pages end there.
-fn page_after<'a>(chain: Chain<'a>) -> Result<DuePage<'a>, End>
+/// The page after the directories that a chain has returned, or how the pages end there.
+fn page_after<'a>(chain: Chain<'a>) -> Result<UnopenedPage<'a>, End>
     requires { IsFileChain chain }
-    ensures ok { IfOk result (λ due. Spec.IsPageAfter chain.entry due) }
-    ensures err { IfErr result (λ end. IsForm chain.entry.tiff.file chain.entry.given (ends_as end)) }
+    ensures ok { IfOk result (λ upcoming. Spec.IsPageAfter chain.entry upcoming) }
+    ensures err { IfErr result (λ end. IsForm chain.entry.tiff.file chain.entry.yielded (ends_as end)) }
 {
-    match DuePage::after(chain) {
+    match UnopenedPage::after(chain) {
         Ok(Some(page)) => Ok(page),
-        Ok(None) => Err(End::Proper),
+        Ok(None) => Err(End::EndOfPages),
         Err(end) => Err(end),
     }
 }
 
 /// The first page from a cursor on: the one that it names at row 0, else the one after it; or how
 /// the pages end there.
-fn first_page<'a>(file: &'a [u8], cursor: Cursor) -> Result<DuePage<'a>, End>
-    ensures ok { IfOk result (Spec.IsFirstDue file.now cursor) }
+fn first_page<'a>(file: &'a [u8], cursor: Cursor) -> Result<UnopenedPage<'a>, End>
+    ensures ok { IfOk result (Spec.IsFirstUpcoming file.now cursor) }
     ensures err { IfErr result (IsFormTail file.now cursor []) }
 {
-    let Some(page) = DuePage::at(file, cursor)? else {
-        return Err(End::Proper);
+    let Some(page) = UnopenedPage::at(file, cursor)? else {
+        return Err(End::EndOfPages);
     };
     if cursor.row == 0 {
         Ok(page)
@@ -101,42 +101,42 @@ impl<'a> Pages<'a> {
     {
         Pages {
             file,
-            begun: cursor,
-            given: 0,
+            origin: cursor,
+            yielded: 0,
             cursor,
             stage: PagesStage::Before,
         }
     }
 
-    /// The cursor after the last page that was handed out, or the one that the reader began with.
+    /// The cursor after the last page that was returned, or the one that the reader began with.
     pub fn cursor(&self) -> Cursor
         ensures { IsCursorOfPages self.now result }
     {
         self.cursor
     }
 
-    /// The page that is due, or how the pages end.
-    fn due(&self) -> Result<DuePage<'a>, End>
-        ensures ok { IfOk result (Spec.IsDueIn self.now) }
+    /// The next page, or how the pages end.
+    fn peek(&self) -> Result<UnopenedPage<'a>, End>
+        ensures ok { IfOk result (Spec.IsUpcomingIn self.now) }
         ensures err { IfErr result (Spec.EndsNow self.now) }
     {
         match &self.stage {
-            PagesStage::Before => first_page(self.file, self.begun),
-            PagesStage::After(chain) => page_after(chain.again()),
+            PagesStage::Before => first_page(self.file, self.origin),
+            PagesStage::After(chain) => page_after(chain.fork()),
             PagesStage::Ended(end) => Err(*end),
         }
     }
 
     /// Pages are left, and an end. It computes nothing.
-    pub(crate) fn forms_are_left(&self)
+    pub(crate) fn lemma_forms_left(&self)
         ensures { (forms : List FormItem) × (end : End) × AreFormsLeft self.now forms end }
     {
         crate::laws::form_tails_are_one();
         let _ = &self.stage;
     }
 
-    /// Hands out the next page's number, from 0, and its form, or `None` once all pages were handed
-    /// out. It takes no memory.
+    /// Returns the next page's number, from 0, and its form, or `None` once all pages were
+    /// returned. It takes no memory.
     ///
     /// # Errors
     ///
@@ -146,11 +146,11 @@ impl<'a> Pages<'a> {
         ensures { IsNextPage self.old result self.new }
     {
         crate::laws::form_tails_are_one();
-        match self.due() {
+        match self.peek() {
             Ok(page) => {
-                self.given += 1;
+                self.yielded += 1;
                 self.cursor = Cursor {
-                    page: page.chain.given(),
+                    page: page.chain.yielded(),
                     row: 0,
                 };
                 self.stage = PagesStage::After(page.chain);

@@ -4,7 +4,7 @@ ghost use Rattle.std.specs.Prelude.{IfSome, IfNone};
 ghost use Rattle.fax_files.specs.Directory.{max_file};
 ghost use Rattle.fax_files.specs.views.Pbm.{head_bytes};
 ghost use Rattle.fax_rows.specs.Coded.{packed_len, packed_row};
-ghost use Rattle.fax_walk.specs.views.Parts.{part_bytes};
+ghost use Rattle.fax_walk.specs.views.SparseBytes.{part_bytes};
 
 use fax_bits::Memory;
 use fax_files::{put_pbm_head, put_pbm_row};
@@ -17,7 +17,7 @@ const LEAST_GAP: usize = 64;
 
 /// Zeros that are not held, after so many bytes that are.
 #[derive(Clone, Copy)]
-struct Gap {
+struct ZeroRun {
     held: usize,
     zeros: usize,
 }
@@ -25,18 +25,18 @@ struct Gap {
 /// The bytes of an output. White rows of an image are counted, and not held. Contracts see all of
 /// the bytes.
 #[derive(Drop)]
-pub struct Parts {
+pub struct SparseBytes {
     held: Vec<u8>,
-    gaps: Vec<Gap>,
+    gaps: Vec<ZeroRun>,
     /// How many of the held bytes stand before the last gap.
     placed: usize,
     /// How many zeros the gaps have.
     zeros: usize,
 }
 
-impl Model for Parts {
+impl Model for SparseBytes {
     ghost use Rattle.std.specs.Prelude.{ℕ, List};
-    ghost use Rattle.fax_walk.specs.code.Parts.{AreParts, spread};
+    ghost use Rattle.fax_walk.specs.code.SparseBytes.{AreParts, spread};
 
     ghost Value = { List ℕ };
 
@@ -46,19 +46,19 @@ impl Model for Parts {
         parts.zeros };
 }
 
-impl Parts {
+impl SparseBytes {
     /// No bytes.
     pub(crate) fn new(alloc: Global) -> Self
         ensures { result ≡ [] }
     {
-        Parts::of_bytes(alloc, Vec::new(alloc))
+        SparseBytes::of_bytes(alloc, Vec::new(alloc))
     }
 
     /// These bytes, all of them held.
     pub(crate) fn of_bytes(alloc: Global, bytes: Vec<u8>) -> Self
         ensures { result ≡ bytes.items }
     {
-        Parts {
+        SparseBytes {
             held: bytes,
             gaps: Vec::new(alloc),
             placed: 0,
@@ -74,10 +74,10 @@ impl Parts {
     }
 
     /// All parts, in order.
-    pub fn parts(&self) -> PartsLeft<'_>
+    pub fn parts(&self) -> SparseParts<'_>
         ensures { result ≡ self.now }
     {
-        PartsLeft {
+        SparseParts {
             held: &self.held,
             gaps: &self.gaps,
         }
@@ -93,7 +93,7 @@ impl Parts {
 
     /// Appends zeros, which are not held, to bytes that are some already.
     fn put_zeros(&mut self, zeros: usize) -> Result<(), Memory>
-        requires begun { 1 ≤ length self.old }
+        requires origin { 1 ≤ length self.old }
         requires room { length self.old + zeros ≤ max_file }
         ensures { OnOk result (self.new ≡ self.old ++ replicate zeros 0) }
     {
@@ -104,7 +104,7 @@ impl Parts {
             self.zeros += zeros;
             return Ok(());
         }
-        self.gaps.push(Gap { held, zeros }).map_err(|_| Memory)?;
+        self.gaps.push(ZeroRun { held, zeros }).map_err(|_| Memory)?;
         self.placed += held;
         self.zeros += zeros;
         Ok(())
@@ -133,8 +133,8 @@ impl Parts {
         }
         let mut bytes = Vec::new(alloc);
         bytes.reserve(self.len()).map_err(|_| Memory)?;
-        let mut left = self.parts();
-        while let Some(part) = left.next_part() {
+        let mut remaining = self.parts();
+        while let Some(part) = remaining.next_part() {
             bytes.extend_from_slice(part.held).map_err(|_| Memory)?;
             bytes
                 .resize(bytes.len() + part.zeros, 0)
@@ -155,24 +155,24 @@ pub struct Part<'a> {
 
 /// The parts of an output that are left. Contracts see their bytes.
 #[derive(Drop)]
-pub struct PartsLeft<'a> {
+pub struct SparseParts<'a> {
     held: &'a [u8],
-    gaps: &'a [Gap],
+    gaps: &'a [ZeroRun],
 }
 
-impl<'a> Model for PartsLeft<'a> {
+impl<'a> Model for SparseParts<'a> {
     ghost use Rattle.std.specs.Prelude.{ℕ, List};
-    ghost use Rattle.fax_walk.specs.code.Parts.{AreLeft, spread};
+    ghost use Rattle.fax_walk.specs.code.SparseBytes.{AreLeft, spread};
 
     ghost Value = { List ℕ };
 
-    ghost view = { λ left. spread left.gaps.now left.held.now };
+    ghost view = { λ remaining. spread remaining.gaps.now remaining.held.now };
 
-    ghost invariant = { λ left. AreLeft left.held.now left.gaps.now };
+    ghost invariant = { λ remaining. AreLeft remaining.held.now remaining.gaps.now };
 }
 
-impl<'a> PartsLeft<'a> {
-    /// The next part, or none where all parts were handed out.
+impl<'a> SparseParts<'a> {
+    /// The next part, or none where all parts were returned.
     pub fn next_part(&mut self) -> Option<Part<'a>>
         ensures part { IfSome result (λ part. self.old ≡ part_bytes part ++ self.new) }
         ensures some { IfSome result (λ part. 0 < length part.held.now) }

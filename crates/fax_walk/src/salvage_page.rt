@@ -1,14 +1,14 @@
 //! What is left of a page: rows, and stretches of rows that are lost.
 ghost use Rattle.std.specs.Prelude.{◌≡◌, ◌<◌, IfOk, List, Ok, length};
-ghost use Rattle.fax_walk.specs.Salvaged.{LeftItem};
+ghost use Rattle.fax_walk.specs.Salvaged.{SalvagedItem};
 ghost use Rattle.fax_files.specs.views.Page.{IsPageForm};
 ghost use Rattle.fax_files.specs.views.Tiff.{form_of};
 ghost use Rattle.fax_walk.specs.code.SalvagePage as Spec;
 
 use crate::Place;
 use crate::open_page::{row_for_exchange, set_exchanged};
-use crate::salvage::{SalvageItem, Stretch};
-use crate::salvage_rows::{PagePart, SalvageRows};
+use crate::salvage::{LostRows, SalvageItem};
+use crate::salvage_rows::{SalvageRows, SalvagedPart};
 use fax_bits::Memory;
 use fax_files::{Cause, PageForm, Strips};
 use fax_rows::Row;
@@ -17,16 +17,16 @@ use std::marker::Model;
 
 /// The stretch of lost rows that ends before a row of a page, with so many rows more, which are
 /// lost for this cause.
-fn longer(lost: Option<Stretch>, page: u32, row: u32, rows: u32, cause: Cause) -> Stretch
+fn longer(lost: Option<LostRows>, page: u32, row: u32, rows: u32, cause: Cause) -> LostRows
     requires { Spec.HasRoom lost rows }
     ensures { result ≡ Spec.longer lost page row rows cause }
 {
     match lost {
-        Some(stretch) => Stretch {
+        Some(stretch) => LostRows {
             rows: stretch.rows + rows,
             ..stretch
         },
-        None => Stretch {
+        None => LostRows {
             page,
             row,
             rows,
@@ -36,20 +36,20 @@ fn longer(lost: Option<Stretch>, page: u32, row: u32, rows: u32, cause: Cause) -
 }
 
 /// A page that is gone through. Contracts see its number, how far its rows are gone through, the
-/// rows that are lost before the one that is due, whether a row that is found waits to be handed
-/// out, and the row that was found last, as it is handed out.
+/// rows that are lost before the next one, whether a row that is found waits to be returned, and
+/// the row that was found last, as it is returned.
 #[derive(Drop)]
 pub(crate) struct SalvagePage<'a> {
     page: u32,
     form: PageForm,
     rows: SalvageRows<'a>,
-    /// The row of the page that is due.
+    /// The row of the next page.
     row: u32,
-    /// The rows that are lost before that one, and not handed out yet.
-    lost: Option<Stretch>,
-    /// Whether the row before that one is found, and not handed out yet.
+    /// The rows that are lost before that one, and not returned yet.
+    lost: Option<LostRows>,
+    /// Whether the row before that one is found, and not returned yet.
     waits: bool,
-    /// Where colours are exchanged, if they are: the row that was found last, as it is handed out.
+    /// Where colours are exchanged, if they are: the row that was found last, as it is returned.
     exchanged: Option<Row>,
 }
 
@@ -81,7 +81,7 @@ impl<'a> SalvagePage<'a> {
         requires form { form_of strips.directory ≡ Ok form }
         requires limits { IsPageForm form }
         requires count { strips.count ≡ form.strips }
-        ensures { IfOk result (Spec.IsPageBegun strips.entry.directory form page) }
+        ensures { IfOk result (Spec.IsPageStarted strips.entry.directory form page) }
     {
         let exchanged = row_for_exchange(alloc, &form)?;
         let rows = SalvageRows::begin(alloc, form, strips)?;
@@ -96,7 +96,7 @@ impl<'a> SalvagePage<'a> {
         })
     }
 
-    /// Shows the row that was found last as it is handed out.
+    /// Shows the row that was found last as it is returned.
     fn show(&mut self)
         ensures { Spec.Shows self.old self.new }
     {
@@ -105,7 +105,7 @@ impl<'a> SalvagePage<'a> {
         }
     }
 
-    /// The row before the one that is due, as it is handed out.
+    /// The row before the next one, as it is returned.
     fn item(&self) -> SalvageItem
         requires { 0 < Spec.row_after self.now }
         ensures { result ≡ Spec.item_before self.now }
@@ -116,9 +116,9 @@ impl<'a> SalvagePage<'a> {
         })
     }
 
-    /// Hands out what is next on the page, or `None` where nothing is left of it.
+    /// Returns what is next on the page, or `None` where nothing is left of it.
     pub fn next_item(&mut self) -> Option<SalvageItem>
-        ensures { Spec.HandsOutOfPage self.old result self.new }
+        ensures { Spec.YieldsOfPage self.old result self.new }
     {
         if self.waits {
             self.waits = false;
@@ -126,7 +126,7 @@ impl<'a> SalvagePage<'a> {
         }
         while let Some(part) = self.rows.next_part() {
             match part {
-                PagePart::Found => {
+                SalvagedPart::Found => {
                     self.row += 1;
                     self.show();
                     let Some(stretch) = self.lost else {
@@ -136,7 +136,7 @@ impl<'a> SalvagePage<'a> {
                     self.waits = true;
                     return Some(SalvageItem::Lost(stretch));
                 }
-                PagePart::Lost { rows, cause } => {
+                SalvagedPart::Lost { rows, cause } => {
                     self.lost = Some(longer(self.lost, self.page, self.row, rows, cause));
                     self.row += rows;
                 }
@@ -158,13 +158,13 @@ impl<'a> SalvagePage<'a> {
     }
 
     /// Something is left of the page, or nothing: it computes nothing.
-    pub fn items_are_left(&self)
-        ensures { (items : List LeftItem) × Spec.IsLeftOnPage self.now items }
+    pub fn lemma_items_left(&self)
+        ensures { (items : List SalvagedItem) × Spec.IsLeftOnPage self.now items }
     {
-        self.rows.rows_are_left();
+        self.rows.lemma_rows_left();
     }
 
-    /// The row that was found last, as it is handed out.
+    /// The row that was found last, as it is returned.
     pub fn row(&self) -> &Row
         ensures { result.now ≡ self.now.shown }
     {

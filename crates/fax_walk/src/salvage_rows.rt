@@ -7,7 +7,7 @@ ghost use Rattle.fax_walk.specs.code.SalvageItems as Spec;
 
 use fax_bits::Memory;
 use fax_files::{Cause, FileFault, PageForm, Strips};
-use fax_page::{PlaceFault, RowBefore, SalvageReader, Salvaged, StripFault};
+use fax_page::{PlaceFault, ReferenceRow, SalvageReader, Salvaged, StripFault};
 use fax_rows::Row;
 use std::alloc::Global;
 use std::marker::Model;
@@ -15,7 +15,7 @@ use std::marker::Model;
 /// What became of the next row of a page, or of a strip with no file around it, and of those that
 /// are lost with it.
 #[derive(Clone, Copy, Debug, PartialEq, Eq)]
-pub enum PagePart {
+pub enum SalvagedPart {
     /// The row is found.
     Found,
     /// So many rows are lost, the first of them for this cause.
@@ -24,7 +24,7 @@ pub enum PagePart {
 
 /// Where a row is read in its strip: it is lent.
 #[derive(Clone, Copy)]
-pub struct PlaceInStrip<'a> {
+pub struct StripPositionRef<'a> {
     /// How many bits stand before it, of those that the file has of the strip.
     pub bits: u32,
     /// The row before it, which is found, as it is coded.
@@ -57,16 +57,16 @@ fn cause_of(fault: StripFault, whole: bool) -> Cause
 
 /// What became of the next row of a page, by what became of it in its strip, which lies wholly in
 /// the file or does not.
-pub(crate) fn part_of(salvaged: Salvaged, whole: bool) -> PagePart
+pub(crate) fn part_of(salvaged: Salvaged, whole: bool) -> SalvagedPart
     ensures { result ≡ Spec.part_of salvaged whole }
 {
     match salvaged {
-        Salvaged::Found => PagePart::Found,
-        Salvaged::Lost { fault, rows } => PagePart::Lost {
+        Salvaged::Found => SalvagedPart::Found,
+        Salvaged::Lost { fault, rows } => SalvagedPart::Lost {
             rows,
             cause: cause_of(fault, whole),
         },
-        Salvaged::Unended { rows } => PagePart::Lost {
+        Salvaged::Unterminated { rows } => SalvagedPart::Lost {
             rows,
             cause: cause_of(StripFault::MissingEol, whole),
         },
@@ -80,7 +80,7 @@ fn is_found(salvaged: Salvaged) -> bool
     match salvaged {
         Salvaged::Found => true,
         Salvaged::Lost { .. } => false,
-        Salvaged::Unended { .. } => false,
+        Salvaged::Unterminated { .. } => false,
     }
 }
 
@@ -143,18 +143,18 @@ impl<'a> SalvageRows<'a> {
         strips: Strips<'a>,
         row: u32,
         bits: u32,
-        before: RowBefore,
+        before: ReferenceRow,
     ) -> Result<Self, PlaceFault>
         requires form { form_of strips.directory ≡ Ok form }
         requires limits { IsPageForm form }
         requires count { strips.count ≡ form.strips }
-        requires due { row < form.rows }
+        requires upcoming { row < form.rows }
         ensures ok { IfOk result
-            (Spec.IsBegunAt strips.entry.directory form row bits before.entry) }
+            (Spec.StartsAt strips.entry.directory form row bits before.entry) }
         ensures err { IfErr result
-            (Spec.IsNotBegunAt strips.entry.directory form row bits before.entry) }
+            (Spec.IsNotStartedAt strips.entry.directory form row bits before.entry) }
     {
-        fax_bits::laws::bits_stand_by_place();
+        fax_bits::laws::bits_stand_by_index();
         let strip = row / form.rows_per_strip;
         let row_in_strip = row - strip * form.rows_per_strip;
         let strip_form = form.strip_form(strip);
@@ -190,8 +190,8 @@ impl<'a> SalvageRows<'a> {
         self.reader.restart(bytes, rows);
     }
 
-    /// What becomes of the row that is due, or `None` after the page's last one.
-    pub fn next_part(&mut self) -> Option<PagePart>
+    /// What becomes of the next row, or `None` after the page's last one.
+    pub fn next_part(&mut self) -> Option<SalvagedPart>
         ensures { Spec.IsPart self.old result self.new }
     {
         fax_page::laws::whole_strips_are_found();
@@ -204,19 +204,19 @@ impl<'a> SalvageRows<'a> {
         Some(part_of(salvaged, self.whole))
     }
 
-    /// Where the row that is due is read in its strip, or `None` where the strip is gone through:
-    /// then the next one begins with that row, if the page has more.
-    pub fn place(&self) -> Option<PlaceInStrip<'_>>
+    /// Where the next row is read in its strip, or `None` where the strip is gone through: then the
+    /// next one begins with that row, if the page has more.
+    pub fn place(&self) -> Option<StripPositionRef<'_>>
         requires { length self.now.directory.file ≤ 536870911 }
         ensures { Spec.IsPlaceOf self.now result }
     {
-        fax_bits::laws::bits_stand_by_place();
+        fax_bits::laws::bits_stand_by_index();
         if self.reader.row() == self.form.strip_form(self.strip).rows {
             return None;
         }
         let (bytes, _whole) = bytes_left(&self.strips, self.strip);
-        let bits = 8 * bytes.len() as u64 - self.reader.bits_due();
-        Some(PlaceInStrip {
+        let bits = 8 * bytes.len() as u64 - self.reader.bits_remaining();
+        Some(StripPositionRef {
             bits: bits as u32,
             reference: self.reader.reference(),
         })
@@ -231,7 +231,7 @@ impl<'a> SalvageRows<'a> {
     }
 
     /// Rows are left of the page, or none: it computes nothing.
-    pub fn rows_are_left(&self)
+    pub fn lemma_rows_left(&self)
         ensures { (rows : List PageRow) × Spec.AreRowsLeft self.now rows }
     {
         fax_page::laws::strips_are_salvaged_in_one_way();

@@ -1,25 +1,25 @@
-//! The rows of a page that are left, as they are handed out.
+//! The rows of a page that are left, as they are returned.
 ghost use Rattle.std.specs.Prelude.{◌≡◌, ◌<◌, ◌≤◌, IfErr, IfOk, List, Ok, length};
 ghost use Rattle.fax_files.specs.views.Page.{IsPageForm};
 ghost use Rattle.fax_files.specs.views.Tiff.{form_of};
 ghost use Rattle.fax_walk.specs.Salvaged.{PageRow};
-ghost use Rattle.fax_walk.specs.code.SalvageItems as Left;
+ghost use Rattle.fax_walk.specs.code.SalvageItems as RowSource;
 ghost use Rattle.fax_walk.specs.code.ShownRows as Spec;
 
 use crate::open_page::{row_for_exchange, set_exchanged};
-use crate::salvage_rows::{PagePart, PlaceInStrip, SalvageRows};
+use crate::salvage_rows::{SalvageRows, SalvagedPart, StripPositionRef};
 use fax_bits::Memory;
 use fax_files::{PageForm, Strips};
-use fax_page::{PlaceFault, RowBefore};
+use fax_page::{PlaceFault, ReferenceRow};
 use fax_rows::Row;
 use std::alloc::Global;
 use std::marker::Model;
 
-/// The rows of a page that are gone through, with the row that was found last, as it is handed out.
+/// The rows of a page that are gone through, with the row that was found last, as it is returned.
 #[derive(Drop)]
 pub(crate) struct ShownRows<'a> {
     rows: SalvageRows<'a>,
-    /// Where colours are exchanged, if they are: the row that was found last, as it is handed out.
+    /// Where colours are exchanged, if they are: the row that was found last, as it is returned.
     exchanged: Option<Row>,
 }
 
@@ -40,7 +40,7 @@ impl<'a> ShownRows<'a> {
         requires form { form_of strips.directory ≡ Ok form }
         requires limits { IsPageForm form }
         requires count { strips.count ≡ form.strips }
-        ensures { IfOk result (λ s. Left.IsBeforeRows strips.entry.directory form s.rows) }
+        ensures { IfOk result (λ s. RowSource.IsBeforeRows strips.entry.directory form s.rows) }
     {
         let exchanged = row_for_exchange(alloc, &form)?;
         let rows = SalvageRows::begin(alloc, form, strips)?;
@@ -55,16 +55,16 @@ impl<'a> ShownRows<'a> {
         strips: Strips<'a>,
         row: u32,
         bits: u32,
-        before: RowBefore,
+        before: ReferenceRow,
     ) -> Result<Self, PlaceFault>
         requires form { form_of strips.directory ≡ Ok form }
         requires limits { IsPageForm form }
         requires count { strips.count ≡ form.strips }
-        requires due { row < form.rows }
+        requires upcoming { row < form.rows }
         ensures ok { IfOk result
-            (λ s. Left.IsBegunAt strips.entry.directory form row bits before.entry s.rows) }
+            (λ s. RowSource.StartsAt strips.entry.directory form row bits before.entry s.rows) }
         ensures err { IfErr result
-            (Left.IsNotBegunAt strips.entry.directory form row bits before.entry) }
+            (RowSource.IsNotStartedAt strips.entry.directory form row bits before.entry) }
     {
         let rows = SalvageRows::begin_at(alloc, form, strips, row, bits, before)?;
         match row_for_exchange(alloc, &form) {
@@ -73,8 +73,8 @@ impl<'a> ShownRows<'a> {
         }
     }
 
-    /// What becomes of the row that is due, or `None` after the page's last one.
-    pub fn next_part(&mut self) -> Option<PagePart>
+    /// What becomes of the next row, or `None` after the page's last one.
+    pub fn next_part(&mut self) -> Option<SalvagedPart>
         ensures { Spec.IsShownPart self.old result self.new }
     {
         let part = self.rows.next_part();
@@ -84,15 +84,15 @@ impl<'a> ShownRows<'a> {
         part
     }
 
-    /// Where the row that is due is read in its strip, as `SalvageRows::place` has it.
-    pub fn place(&self) -> Option<PlaceInStrip<'_>>
+    /// Where the next row is read in its strip, as `SalvageRows::place` has it.
+    pub fn place(&self) -> Option<StripPositionRef<'_>>
         requires { length self.now.rows.directory.file ≤ 536870911 }
-        ensures { Left.IsPlaceOf self.now.rows result }
+        ensures { RowSource.IsPlaceOf self.now.rows result }
     {
         self.rows.place()
     }
 
-    /// The row that was found last, as it is handed out.
+    /// The row that was found last, as it is returned.
     pub fn row(&self) -> &Row
         ensures pels { result.now ≡ self.now.shown }
         ensures width { length result.now ≡ self.now.rows.form.width }
@@ -104,9 +104,9 @@ impl<'a> ShownRows<'a> {
     }
 
     /// Rows are left of the page, or none: it computes nothing.
-    pub fn rows_are_left(&self)
-        ensures { (rows : List PageRow) × Left.AreRowsLeft self.now.rows rows }
+    pub fn lemma_rows_left(&self)
+        ensures { (rows : List PageRow) × RowSource.AreRowsLeft self.now.rows rows }
     {
-        self.rows.rows_are_left();
+        self.rows.lemma_rows_left();
     }
 }

@@ -80,12 +80,12 @@ pub(crate) fn within<M: Copy>(entry: CodeEntry<M>, n: u32) -> Option<(u32, M)> {
 ///
 /// `DataEnds` where the bits end within a code, `BadCode` where no code begins so. The source is
 /// then as it was.
-// ensures read { read_code_of T.table source.old.left
-//     ≡ answered (λ meaning. meaning) result source.new.left }
+// ensures read { read_code_of T.table source.old.remaining
+//     ≡ answered (λ meaning. meaning) result source.new.remaining }
 // ensures unchanged { OnErr result (source.new ≡ source.old) }
-// The source goes on in the same bits, and a code takes at least one of them.
+// The source continues in the same bits, and a code takes at least one of them.
 // ensures same_end { KeepsEnd source.old source.new }
-// ensures shorter { OnOk result (length source.new.left < length source.old.left) }
+// ensures shorter { OnOk result (length source.new.remaining < length source.old.remaining) }
 pub fn read_code<T: CodeTable>(source: &mut BitSource) -> Result<T::Meaning, CodeFault> {
     // It looks at the next thirteen bits, or at all that are left: near the end of the bytes the
     // window loads single bytes, so that one function reads every code and names each fault. Each

@@ -20,7 +20,7 @@ mod window;
 pub use bit_reversal::reverse_bits;
 pub use codes::{CodeEntry, CodeFault, CodeTable, read_code};
 pub use mode_codes::{ModeCode, Modes};
-pub use pairs::{Pair, SHORT_RUN};
+pub use pairs::{RunPair, SHORT_RUN};
 pub use pending::PendingBits;
 pub use put::{put_mode, put_run};
 pub use run_codes::{BlackRuns, LONGEST_MAKE_UP, RunCode, WhiteRuns};

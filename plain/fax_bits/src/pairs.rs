@@ -9,7 +9,7 @@ pub const SHORT_RUN: u32 = 16;
 
 /// A white run and the black one after it, by the pels that they have.
 #[derive(Clone, Copy, Debug, PartialEq, Eq)]
-pub struct Pair {
+pub struct RunPair {
     pub white: u32,
     pub black: u32,
 }
@@ -20,7 +20,7 @@ pub struct Pair {
 // requires { bits < 2 ^ LONGEST_CODE }
 // ensures { IfSome result
 //     (λ found. IsPairAhead (code_bits LONGEST_CODE bits) found.0 found.1) }
-pub(crate) fn find_pair(bits: u32) -> Option<(u32, Pair)> {
+pub(crate) fn find_pair(bits: u32) -> Option<(u32, RunPair)> {
     // The three arrays are one static, so that they have one address in a register. `make-indexes`
     // prints them; a computed proof goes through all 4,096 numbers.
     let at = (bits >> 1) as usize;
@@ -28,7 +28,7 @@ pub(crate) fn find_pair(bits: u32) -> Option<(u32, Pair)> {
     if len == 0 {
         return None;
     }
-    let pair = Pair {
+    let pair = RunPair {
         white: u32::from(PAIRS.whites[at]),
         black: u32::from(PAIRS.blacks[at]),
     };

@@ -60,7 +60,7 @@ impl PendingBits {
     /// Puts the first word of these and the next ones into the sink, where they are so many, and
     /// answers the others. After an `Err` the sink is as it was.
     #[inline(always)]
-    // ensures ok { IfOk result (λ left. AppendsAllBut sink.old (self ++ next) left sink.new) }
+    // ensures ok { IfOk result (λ remaining. AppendsAllBut sink.old (self ++ next) remaining sink.new) }
     // ensures err { OnErr result (sink.new ≡ sink.old) }
     pub(crate) fn put(self, sink: &mut BitSink, next: Self) -> Result<Self, Memory> {
         let number = (self.number << next.count) | next.number;
@@ -68,18 +68,18 @@ impl PendingBits {
         if count < WORD {
             return Ok(PendingBits { number, count });
         }
-        let left = count - WORD;
-        sink.put_word((number >> left) as u32)?;
+        let remaining = count - WORD;
+        sink.put_word((number >> remaining) as u32)?;
         Ok(PendingBits {
-            number: number & ((1 << left) - 1),
-            count: left,
+            number: number & ((1 << remaining) - 1),
+            count: remaining,
         })
     }
 
-    /// Goes past these bits in a source, where they stand next, and answers whether they do. Else
-    /// the source stays.
+    /// Skips these bits in a source, where they stand next, and returns whether they do. Else the
+    /// source stays.
     #[inline(always)]
-    // ensures taken { IsTaken self source.old.left result source.new.left }
+    // ensures taken { IsTaken self source.old.remaining result source.new.remaining }
     // ensures same_end { KeepsEnd source.old source.new }
     pub(crate) fn take(self, source: &mut BitSource) -> bool {
         source.take(self.number as u32, self.count)

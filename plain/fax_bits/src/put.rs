@@ -120,7 +120,7 @@ impl PendingBits {
     #[inline(always)]
     // requires { n < 2 ^ 16 }
     // ensures ok { IfOk result
-    //     (λ left. AppendsAllBut sink.old (self ++ run_bits colour n) left sink.new) }
+    //     (λ remaining. AppendsAllBut sink.old (self ++ run_bits colour n) remaining sink.new) }
     // ensures err { OnErr result (AppendsPrefix sink.old (self ++ run_bits colour n) sink.new) }
     pub fn put_run(self, sink: &mut BitSink, colour: Colour, n: u32) -> Result<Self, Memory> {
         if n < 2560 {
@@ -151,8 +151,8 @@ impl PendingBits {
     // requires first { first < SHORT_RUN }
     // requires second { second < SHORT_RUN }
     // ensures ok { IfOk result
-    //     (λ left. AppendsAllBut sink.old (self ++ pair_bits colour first second)
-    //     left sink.new) }
+    //     (λ remaining. AppendsAllBut sink.old (self ++ pair_bits colour first second)
+    //     remaining sink.new) }
     // ensures err { OnErr result (sink.new ≡ sink.old) }
     pub fn put_short_pair(
         self,
@@ -174,7 +174,7 @@ impl PendingBits {
     #[inline(always)]
     // requires { IsWritten mode }
     // ensures ok { IfOk result
-    //     (λ left. AppendsAllBut sink.old (self ++ mode_bits mode) left sink.new) }
+    //     (λ remaining. AppendsAllBut sink.old (self ++ mode_bits mode) remaining sink.new) }
     // ensures err { OnErr result (sink.new ≡ sink.old) }
     pub fn put_mode(self, sink: &mut BitSink, mode: ModeCode) -> Result<Self, Memory> {
         self.put(sink, mode_code(mode))
@@ -182,14 +182,14 @@ impl PendingBits {
 }
 
 impl BitSource<'_> {
-    /// Goes past the codes of a run of `n` pels, fewer than 2560, as they are written, where they
-    /// stand next, and answers whether they do (T.4, section 4.1.1). Else it stays.
+    /// Skips the codes of a run of `n` pels, fewer than 2560, as they are written, where they stand
+    /// next, and returns whether they do (T.4, section 4.1.1). Else it stays.
     #[inline(always)]
     // requires { n < 2560 }
-    // ensures taken { IsTaken (run_bits colour n) self.old.left result self.new.left }
-    // The source goes on in the same bits.
+    // ensures taken { IsTaken (run_bits colour n) self.old.remaining result self.new.remaining }
+    // The source continues in the same bits.
     // ensures same_end { KeepsEnd self.old self.new }
-    pub fn take_run(&mut self, colour: Colour, n: u32) -> bool {
+    pub fn skip_run_if_next(&mut self, colour: Colour, n: u32) -> bool {
         codes_of_run(colour, n).take(self)
     }
 }

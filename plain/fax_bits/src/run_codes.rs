@@ -10,7 +10,7 @@ use crate::indexes::{BLACK_LONG, BLACK_SHORT, WHITE_LONG, WHITE_SHORT};
 pub enum RunCode {
     /// Ends a run: this many pels, 0 to 63.
     Terminating(u16),
-    /// Goes on with a run: this many pels, 64 to 2560.
+    /// Continues with a run: this many pels, 64 to 2560.
     MakeUp(u16),
     /// The prefix of codes that T.4 leaves to extensions.
     Extension,
@@ -132,7 +132,7 @@ pub(crate) fn run_entry(colour: Colour, i: usize) -> CodeEntry<RunCode> {
 // ensures { MatchOption result (HasNoCode (run_table colour) (code_bits n window))
 //     (λ found. HasCodeAhead (run_table colour) (code_bits n window) found.0 found.1) }
 fn find_run(colour: Colour, window: u32, n: u32) -> Option<(u32, RunCode)> {
-    let place = run_place(colour, window << (LONGEST_CODE - n));
+    let place = run_index(colour, window << (LONGEST_CODE - n));
     if place < RUN_ENTRIES {
         within(run_entry(colour, place), n)
     } else {
@@ -145,7 +145,7 @@ fn find_run(colour: Colour, window: u32, n: u32) -> Option<(u32, RunCode)> {
 #[inline(always)]
 // requires { bits < 2 ^ LONGEST_CODE }
 // ensures { result ≡ place_of (run_table colour) LONGEST_CODE bits }
-fn run_place(colour: Colour, bits: u32) -> usize {
+fn run_index(colour: Colour, bits: u32) -> usize {
     let at = bits as usize;
     match colour {
         Colour::White if at < 64 => usize::from(WHITE_LONG[at]),
@@ -172,7 +172,7 @@ pub(crate) fn find_run_code(colour: Colour, bits: u32) -> Option<(u32, RunCode)>
     };
     let mut place = usize::from(short);
     if place >= EXTENSION {
-        place = run_place(colour, bits);
+        place = run_index(colour, bits);
         if place >= EXTENSION {
             return None;
         }

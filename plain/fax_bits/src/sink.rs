@@ -27,14 +27,14 @@ const ROOM: usize = 9;
 // ensures room { vec_capacity bytes.new ≡ vec_capacity bytes.old }
 fn push_whole(bytes: &mut Vec<u8>, pending: u64, count: u32) -> (u64, u32) {
     let mut rest = pending;
-    let mut left = count;
-    while left >= 8 {
-        left -= 8;
-        let byte = (rest >> left) as u8;
+    let mut remaining = count;
+    while remaining >= 8 {
+        remaining -= 8;
+        let byte = (rest >> remaining) as u8;
         bytes.push_reserved(byte);
-        rest &= (1 << left) - 1;
+        rest &= (1 << remaining) - 1;
     }
-    (rest, left)
+    (rest, remaining)
 }
 
 /// Pushes the four bytes of a word, the highest first, after bytes that have room for them.
@@ -96,15 +96,15 @@ impl BitSink {
     }
 
     /// Whether the bits that a source has left begin with these.
-    // ensures { IsTrue result ↔ BeginsWith source.now.left self.now.bits }
-    pub fn begins(&self, source: &BitSource) -> bool {
-        let mut ahead = source.again();
+    // ensures { IsTrue result ↔ StartsWith source.now.remaining self.now.bits }
+    pub fn starts_with(&self, source: &BitSource) -> bool {
+        let mut ahead = source.fork();
         for byte in &self.bytes {
             if !ahead.take(u32::from(*byte), 8) {
                 return false;
             }
         }
-        ahead.begins(self.pending, self.count)
+        ahead.starts_with(self.pending, self.count)
     }
 
     /// Puts the lowest `len` bits of `bits`, 0 to 32 of them, the highest first.
@@ -144,10 +144,10 @@ impl BitSink {
             self.count = count;
             return Ok(());
         }
-        let left = count - 32;
-        push_word(&mut self.bytes, (pending >> left) as u32);
-        self.pending = pending & ((1 << left) - 1);
-        self.count = left;
+        let remaining = count - 32;
+        push_word(&mut self.bytes, (pending >> remaining) as u32);
+        self.pending = pending & ((1 << remaining) - 1);
+        self.count = remaining;
         Ok(())
     }
 

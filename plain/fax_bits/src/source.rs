@@ -37,14 +37,14 @@ impl<'a> BitSource<'a> {
     }
 
     /// How many bits are left.
-    // ensures { result ≡ length self.now.left }
+    // ensures { result ≡ length self.now.remaining }
     pub fn remaining(&self) -> u64 {
         (self.bytes.len() - self.window.at) as u64 * 8 + u64::from(self.window.count)
     }
 
     /// The bit that is `i` bits ahead.
-    // requires { i < length self.now.left }
-    // ensures { result ≡ slice_index_or self.now.left i false }
+    // requires { i < length self.now.remaining }
+    // ensures { result ≡ slice_index_or self.now.remaining i false }
     pub(crate) fn bit(&self, i: u64) -> bool {
         let at = self.window.place() + i;
         let byte = self.bytes[(at / 8) as usize];
@@ -54,7 +54,7 @@ impl<'a> BitSource<'a> {
     /// The number that the next `n` bits spell, 0 to 32 of them, the highest first. Past the end of
     /// the bytes it sees zeros, which are no bits: `remaining` says how many bits there are.
     // requires { n ≤ 32 }
-    // ensures { result ≡ bits_number (take n (self.now.left ++ replicate n false)) }
+    // ensures { result ≡ bits_number (take n (self.now.remaining ++ replicate n false)) }
     pub fn peek(&self, n: u32) -> u32 {
         if n == 0 {
             return 0;
@@ -67,42 +67,42 @@ impl<'a> BitSource<'a> {
 
     /// The byte that begins `i` bits ahead is whole and all zeros. `false` where no byte begins
     /// there.
-    // requires { i < length self.now.left }
-    // ensures { IsTrue result → IsZeroByteAt self.now.left i }
+    // requires { i < length self.now.remaining }
+    // ensures { IsTrue result → IsZeroByteAt self.now.remaining i }
     fn is_zero_byte(&self, i: u64) -> bool {
         let at = self.window.place() + i;
         at % 8 == 0 && self.bytes[(at / 8) as usize] == 0
     }
 
     /// How many zeros stand before the next 1, or `None` where no 1 is left.
-    // ensures { MatchOption result (IsAllZeros self.now.left) (HasZerosAhead self.now.left) }
+    // ensures { MatchOption result (IsAllZeros self.now.remaining) (HasLeadingZeros self.now.remaining) }
     pub fn zeros(&self) -> Option<u64> {
         let zeros = self.window.zeros();
         if zeros < self.window.count {
             return Some(u64::from(zeros));
         }
-        self.zeros_filled()
+        self.zeros_slow()
     }
 
     /// What `zeros` says where no 1 is loaded.
     #[inline(never)]
-    // ensures { MatchOption result (IsAllZeros self.now.left) (HasZerosAhead self.now.left) }
-    fn zeros_filled(&self) -> Option<u64> {
+    // ensures { MatchOption result (IsAllZeros self.now.remaining) (HasLeadingZeros self.now.remaining) }
+    fn zeros_slow(&self) -> Option<u64> {
         let ahead = self.window.filled(self.bytes, self.order);
         let zeros = ahead.zeros();
         if zeros < ahead.count {
             return Some(u64::from(zeros));
         }
-        self.zeros_by_bytes()
+        self.zeros_bytewise()
     }
 
     /// What `zeros` says, by bytes and bits: in fill, and near the end of the bytes.
     #[inline(never)]
-    // ensures { MatchOption result (IsAllZeros self.now.left) (HasZerosAhead self.now.left) }
-    fn zeros_by_bytes(&self) -> Option<u64> {
-        let left = self.remaining();
+    // ensures { MatchOption result (IsAllZeros self.now.remaining) (HasLeadingZeros self.now.remaining) }
+    fn zeros_bytewise(&self) -> Option<u64> {
+        let remaining = self.remaining();
         let mut zeros = 0;
-        while zeros < left {
+        while zeros < remaining {
             if self.is_zero_byte(zeros) {
                 zeros += 8;
             } else if self.bit(zeros) {
@@ -117,13 +117,13 @@ impl<'a> BitSource<'a> {
     /// The same place once more.
     #[inline(always)]
     // ensures { result ≡ self.now }
-    pub fn again(&self) -> Self {
+    pub fn fork(&self) -> Self {
         // A reader of rows works on a copy, which the compiler keeps in registers, and goes to
         // where the copy stands at the row's end.
         // By its fields, so that a copy in registers has no gaps that are copied too.
         BitSource {
             bytes: self.bytes,
-            window: self.window.again(),
+            window: self.window.fork(),
             order: self.order,
         }
     }
@@ -131,19 +131,19 @@ impl<'a> BitSource<'a> {
     /// Goes to the place of another source.
     #[inline(always)]
     // ensures { self.new ≡ other.now }
-    pub fn go_to(&mut self, other: &BitSource<'a>) {
+    pub fn advance_to(&mut self, other: &BitSource<'a>) {
         // By its fields, so that a copy in registers has no gaps that are copied too.
         self.bytes = other.bytes;
-        self.window = other.window.again();
+        self.window = other.window.fork();
         self.order = other.order;
     }
 
-    /// Goes past the lowest `len` bits of `bits`, 0 to 32 of them, the highest first, where they
-    /// stand next, and answers whether they do. Else it stays.
+    /// Skips the lowest `len` bits of `bits`, 0 to 32 of them, the highest first, where they stand
+    /// next, and returns whether they do. Else it stays.
     // requires short { len ≤ 32 }
     // requires fits { bits < 2 ^ len }
-    // ensures taken { IsTaken (code_bits len bits) self.old.left result self.new.left }
-    // The source goes on in the same bits.
+    // ensures taken { IsTaken (code_bits len bits) self.old.remaining result self.new.remaining }
+    // The source continues in the same bits.
     // ensures same_end { KeepsEnd self.old self.new }
     pub fn take(&mut self, bits: u32, len: u32) -> bool {
         if len == 0 {
@@ -160,52 +160,52 @@ impl<'a> BitSource<'a> {
     /// Whether the lowest `len` bits of `bits`, 0 to 48 of them, the highest first, stand next.
     // requires short { len ≤ 48 }
     // requires fits { bits < 2 ^ len }
-    // ensures { IsTrue result ↔ BeginsWith self.now.left (code_bits len bits) }
-    pub(crate) fn begins(&self, bits: u64, len: u32) -> bool {
+    // ensures { IsTrue result ↔ StartsWith self.now.remaining (code_bits len bits) }
+    pub(crate) fn starts_with(&self, bits: u64, len: u32) -> bool {
         let low = len / 2;
-        let mut ahead = self.again();
+        let mut ahead = self.fork();
         if !ahead.take((bits >> low) as u32, len - low) {
             return false;
         }
         ahead.take((bits & ((1 << low) - 1)) as u32, low)
     }
 
-    /// Goes on by `n` bits.
+    /// Advances by `n` bits.
     #[inline(always)]
-    // requires { n ≤ length self.old.left }
-    // ensures { self.new ≡ record { left = drop n self.old.left; place = self.old.place + n } }
+    // requires { n ≤ length self.old.remaining }
+    // ensures { self.new ≡ record { remaining = drop n self.old.remaining; place = self.old.place + n } }
     pub fn skip(&mut self, n: u64) {
         if n <= u64::from(self.window.count) && n < 64 {
             self.window = self.window.after(n as u32);
         } else {
-            self.skip_further(n);
+            self.skip_slow(n);
         }
     }
 
-    /// Goes on to a place.
+    /// Advances to a place.
     #[inline(always)]
     // requires ahead { self.old.place ≤ place }
-    // requires within { place ≤ self.old.place + length self.old.left }
+    // requires within { place ≤ self.old.place + length self.old.remaining }
     // ensures { self.new
-    //     ≡ record { left = drop (place - self.old.place) self.old.left; place = place } }
+    //     ≡ record { remaining = drop (place - self.old.place) self.old.remaining; place = place } }
     pub fn skip_to(&mut self, place: u64) {
         // By its fields, so that the window that is gone on with need not stand in memory.
-        let window = Window::from_place(self.bytes, self.order, place);
-        self.window = window.again();
+        let window = Window::at_bit_offset(self.bytes, self.order, place);
+        self.window = window.fork();
     }
 
     /// What `skip` does past bits that are not loaded.
     #[inline(never)]
-    // requires { n ≤ length self.old.left }
-    // ensures { self.new ≡ record { left = drop n self.old.left; place = self.old.place + n } }
-    fn skip_further(&mut self, n: u64) {
+    // requires { n ≤ length self.old.remaining }
+    // ensures { self.new ≡ record { remaining = drop n self.old.remaining; place = self.old.place + n } }
+    fn skip_slow(&mut self, n: u64) {
         let place = self.window.place() + n;
         let ahead = self.window.filled(self.bytes, self.order);
         if n <= u64::from(ahead.count) && n < 64 {
             self.window = ahead.after(n as u32);
             return;
         }
-        self.window = Window::from_place(self.bytes, self.order, place);
+        self.window = Window::at_bit_offset(self.bytes, self.order, place);
     }
 }
 

@@ -33,8 +33,8 @@ impl Window {
     #[inline(never)]
     // requires { IsPlaced bytes.now place }
     // ensures ahead { IsAhead order bytes.now result }
-    // ensures place { place_before result ≡ place }
-    pub fn from_place(bytes: &[u8], order: FillOrder, place: u64) -> Window {
+    // ensures place { bit_offset result ≡ place }
+    pub fn at_bit_offset(bytes: &[u8], order: FillOrder, place: u64) -> Window {
         let at = (place / 8) as usize;
         let bits = (place % 8) as u32;
         if bits == 0 {
@@ -46,7 +46,7 @@ impl Window {
     /// The same window, made of its fields.
     #[inline(always)]
     // ensures { result ≡ self }
-    pub fn again(self) -> Window {
+    pub fn fork(self) -> Window {
         Window {
             bits: self.bits,
             count: self.count,
@@ -58,7 +58,7 @@ impl Window {
     #[inline(always)]
     // requires after { self.count ≤ 8 * self.at }
     // requires within { self.at ≤ 4294967295 }
-    // ensures { result ≡ place_before self }
+    // ensures { result ≡ bit_offset self }
     pub fn place(self) -> u64 {
         self.at as u64 * 8 - u64::from(self.count)
     }
@@ -82,7 +82,7 @@ impl Window {
     /// The same bits, of which four bytes more are loaded.
     #[inline(always)]
     // requires room { self.count < 32 }
-    // requires left { self.at + 4 ≤ length bytes.now }
+    // requires remaining { self.at + 4 ≤ length bytes.now }
     // ensures ahead { bits_ahead order bytes.now result ≡ bits_ahead order bytes.now self }
     // ensures count { result.count ≡ self.count + 32 }
     // ensures at { result.at ≡ self.at + 4 }
@@ -98,7 +98,7 @@ impl Window {
     /// The same bits, of which one byte more is loaded.
     #[inline(always)]
     // requires room { self.count ≤ 56 }
-    // requires left { self.at < length bytes.now }
+    // requires remaining { self.at < length bytes.now }
     // ensures ahead { bits_ahead order bytes.now result ≡ bits_ahead order bytes.now self }
     // ensures count { result.count ≡ self.count + 8 }
     // ensures at { result.at ≡ self.at + 1 }
@@ -180,7 +180,7 @@ impl Window {
     /// How many zeros stand before the first 1, where it is loaded; else no fewer than are loaded.
     #[inline(always)]
     // ensures ahead { (order : FillOrder) (bytes : List ℕ) → result < self.count
-    //     → HasZerosAhead (bits_ahead order bytes self) result }
+    //     → HasLeadingZeros (bits_ahead order bytes self) result }
     pub fn zeros(self) -> u32 {
         self.bits.leading_zeros()
     }
@@ -188,7 +188,7 @@ impl Window {
     /// Whether the next bit is loaded, and a 1.
     #[inline(always)]
     // ensures ahead { IsTrue result → (order : FillOrder) (bytes : List ℕ)
-    //     → HasZerosAhead (bits_ahead order bytes self) 0 }
+    //     → HasLeadingZeros (bits_ahead order bytes self) 0 }
     // ensures loaded { IsTrue result → 0 < self.count }
     pub fn begins_with_one(self) -> bool {
         self.bits >> 63 == 1

@@ -56,11 +56,6 @@ pub fn faxpages_place_parse(text: &[u8], place: &mut FaxPlace, runs: &mut [u32])
 }
 
 /// As the header says.
-pub fn faxpages_end_pages(file: &mut [u8], written: &mut FaxWritten) -> u32 {
-    crate::ending::faxpages_end_pages(file, written)
-}
-
-/// As the header says.
 pub fn faxpages_convert(
     file: &[u8],
     options: &FaxOptions,
@@ -115,6 +110,11 @@ pub fn faxpages_page(
     told: &mut FaxTold,
 ) -> u32 {
     crate::page_raster::faxpages_page(Global, file, page, form, out, stride, told)
+}
+
+/// As the header says.
+pub fn faxpages_end_pages(file: &mut [u8], written: &mut FaxWritten) -> u32 {
+    crate::page_total::faxpages_end_pages(file, written)
 }
 
 /// As the header says.

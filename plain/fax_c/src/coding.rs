@@ -36,7 +36,7 @@ pub(crate) fn code_strip(
     writer.finish()
 }
 
-/// Codes the rows of a raster as a strip, writes it where it has room, and tells how many bytes it
+/// Codes the rows of a raster as a strip, writes it where it has room, and says how many bytes it
 /// has.
 // ensures { Spec.TellsStrip
 //     (record { form = form.now; k = k; raster = raster.now; stride = stride }) out.old out.new

@@ -11,8 +11,8 @@ use fax_page::{Memory, StripForm, StripWriter};
 use fax_rows::Row;
 use kit_std::alloc::Global;
 
-/// Takes the pels of row `i` of a table, whose runs stand apart, and answers whether there is such
-/// a row of this width.
+/// Decodes the pels of row `i` of a table, whose runs stand apart, and returns whether there is
+/// such a row of this width.
 // ensures taken { result ≡ true → Spec.IsRowAt (length row.old) rows.now runs.now i row.new }
 // ensures none { result ≡ false → (pels : List Colour)
 //     → Spec.IsRowAt (length row.old) rows.now runs.now i pels → ⊥ }
@@ -54,7 +54,7 @@ fn code_rows(
 }
 
 /// Codes rows as runs, which lie where a table says, as a strip, writes it where it has room, and
-/// tells how many bytes it has.
+/// says how many bytes it has.
 // ensures { Spec.TellsStripOfRuns
 //     (record { form = form.now; k = k; table = rows.now; runs = runs.now }) out.old out.new
 //     len.new result }

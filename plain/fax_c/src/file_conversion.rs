@@ -5,7 +5,7 @@ use crate::bytes::{put_bytes, put_zeros};
 use crate::faults::{FaxFault, pbm_fault_number};
 use crate::status;
 use fax_files::FillOrder;
-use fax_walk::{ConvertFault, Options, Part, Parts, Target, convert_parts};
+use fax_walk::{ConvertFault, Options, Part, SparseBytes, Target, convert_sparse};
 use kit_std::alloc::Global;
 
 /// How a file is written.
@@ -94,7 +94,7 @@ fn options_of(given: &FaxOptions) -> Option<Options> {
     })
 }
 
-/// The number that a call answers where a file is not converted.
+/// The number that a call returns where a file is not converted.
 // ensures { result ≡ Code.refusal_status fault }
 fn refusal_status(fault: ConvertFault) -> u32 {
     match fault {
@@ -134,7 +134,7 @@ impl FaxConverted {
     }
 }
 
-/// Writes a part of an output at a place, and answers where it ends.
+/// Writes a part of an output at a place, and returns where it ends.
 // requires { at + length (part_bytes part) ≤ length out.old }
 // ensures written { out.new ≡ take at out.old ++ (part_bytes part.entry ++ drop result out.old) }
 // ensures end { result ≡ at + length (part_bytes part.entry) }
@@ -147,20 +147,20 @@ fn put_part(out: &mut [u8], at: usize, part: Part) -> usize {
 
 /// Writes an output part by part where it has room.
 // ensures { IsTextPut output.now out.old (length output.now) out.new }
-fn put_parts(output: &Parts, out: &mut [u8]) {
+fn put_parts(output: &SparseBytes, out: &mut [u8]) {
     if output.len() > out.len() {
         return;
     }
-    let mut left = output.parts();
+    let mut remaining = output.parts();
     let mut at = 0;
-    while let Some(part) = left.next_part() {
+    while let Some(part) = remaining.next_part() {
         at = put_part(out, at, part);
     }
 }
 
-/// Writes the output where it has room, and tells how long it is.
+/// Writes the output where it has room, and says how long it is.
 // ensures { Spec.IsOutputTold output.now out.old out.new converted.new result }
-fn put_output(output: &Parts, out: &mut [u8], converted: &mut FaxConverted) -> u32 {
+fn put_output(output: &SparseBytes, out: &mut [u8], converted: &mut FaxConverted) -> u32 {
     *converted = FaxConverted {
         len: output.len(),
         image: 0,
@@ -188,7 +188,7 @@ pub fn faxpages_convert(
     let Some(options) = options_of(options) else {
         return status::NO_OPTIONS;
     };
-    match convert_parts(alloc, file, &options) {
+    match convert_sparse(alloc, file, &options) {
         Ok(output) => put_output(&output, out, converted),
         Err(fault) => {
             *converted = FaxConverted::refused(fault);

@@ -12,7 +12,7 @@ pub(crate) trait RowFormat {
     /// How many a row has at most.
     const MOST: usize;
 
-    /// Writes those of a row at a place, where they have room, and answers where they end.
+    /// Writes those of a row at a place, where they have room, and returns where they end.
     // requires { at ≤ length out.old }
     // ensures put { IsPutAt (numbers row.now) out.old at result out.new }
     // ensures few { length (numbers row.now) ≤ 2 ^ 16 }
@@ -38,7 +38,7 @@ impl RowFormat for Packed {
 /// As the lengths of its longest runs, white first: the first one is 0 where the row begins black.
 pub(crate) struct Runs;
 
-/// Writes the runs that are left at a place where they have room.
+/// Writes the remaining runs at a place where they have room.
 // requires { at + length runs.old ≤ length out.old }
 // ensures { out.new ≡ take at out.old ++ runs.old ++ drop (at + length runs.old) out.old }
 fn put_runs(runs: &mut LongestRuns, out: &mut [u32], at: usize) {
@@ -49,7 +49,7 @@ fn put_runs(runs: &mut LongestRuns, out: &mut [u32], at: usize) {
     }
 }
 
-/// Writes the runs of a row where those of any row have room, and answers how many they are.
+/// Writes the runs of a row where those of any row have room, and returns how many they are.
 // requires { 65536 ≤ length out.old }
 // ensures { IsPutAt (runs_of row.now) out.old 0 (Some result) out.new }
 pub(crate) fn put_all_runs(row: &Row, out: &mut [u32]) -> u32 {

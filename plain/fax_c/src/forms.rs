@@ -1,7 +1,7 @@
 // Made by tools/plain-rust of crates/fax_c/src/forms.rt: change that.
 //! The forms of pages.
 
-use crate::filled::{Filled, Stop};
+use crate::fill::{Filled, Stop};
 use crate::told::FaxTold;
 use fax_files::{Coding, FillOrder, PageForm};
 use fax_walk::{Cursor, End, Pages};
@@ -82,7 +82,7 @@ impl FaxForm {
 pub(crate) fn next_form(pages: &mut Pages) -> Result<PageForm, End> {
     match pages.next_page() {
         Ok(Some((_, form))) => Ok(form),
-        Ok(None) => Err(End::Proper),
+        Ok(None) => Err(End::EndOfPages),
         Err(fault) => match Stop::of_fault(fault) {
             Stop::Ended(end) => Err(end),
             // A reader of pages takes no memory.
@@ -92,8 +92,8 @@ pub(crate) fn next_form(pages: &mut Pages) -> Result<PageForm, End> {
 }
 
 /// Writes the forms of the first pages of a reader, as many as have room.
-// requires { pages.old.given ≡ 0 }
-// ensures { Spec.AreFormsFilled pages.old.file pages.old.begun forms.old result forms.new }
+// requires { pages.old.yielded ≡ 0 }
+// ensures { Spec.AreFormsFilled pages.old.file pages.old.origin forms.old result forms.new }
 fn fill_forms(pages: &mut Pages, forms: &mut [FaxForm]) -> Filled {
     let mut count = 0;
     while count < forms.len() {
@@ -131,5 +131,5 @@ pub fn faxpages_forms(
     told: &mut FaxTold,
 ) -> u32 {
     let mut pages = Pages::resume(file, Cursor { page, row: 0 });
-    fill_forms(&mut pages, forms).tell(told)
+    fill_forms(&mut pages, forms).fill_result(told)
 }

@@ -86,7 +86,7 @@ fn name_of(number: u32) -> Option<&'static str> {
     }
 }
 
-/// Writes the name of the faults with this number where it has room, and answers how many bytes it
+/// Writes the name of the faults with this number where it has room, and returns how many bytes it
 /// has: 0 where no fault has this number.
 // ensures { Spec.NamesFault number name.old result name.new }
 pub fn faxpages_fault_name(number: u32, name: &mut [u8]) -> usize {
@@ -115,7 +115,7 @@ fn status_name(number: u32) -> &'static str {
     }
 }
 
-/// Writes the name of a status where it has room, and answers how many bytes it has: 0 where none
+/// Writes the name of a status where it has room, and returns how many bytes it has: 0 where none
 /// has this number.
 // ensures { Spec.NamesStatus number name.old result name.new }
 pub fn faxpages_status_name(number: u32, name: &mut [u8]) -> usize {
@@ -136,7 +136,7 @@ fn note_kind(number: u32) -> Option<NoteKind> {
     }
 }
 
-/// Writes the name of the notes with this number where it has room, and answers how many bytes it
+/// Writes the name of the notes with this number where it has room, and returns how many bytes it
 /// has: 0 where no note has this number.
 // ensures { Spec.NamesNote number name.old result name.new }
 pub fn faxpages_note_name(number: u32, name: &mut [u8]) -> usize {

@@ -3,17 +3,17 @@
 
 use kit_std::prelude::Vec;
 
-use crate::filled::Filled;
+use crate::fill::Filled;
 use crate::format::{RowFormat, Runs};
 use crate::status;
-use fax_walk::{Begun, Cursor, LongCursor, Walk};
+use fax_walk::{Cursor, LongCursor, Walk, WalkStart};
 use kit_std::alloc::Global;
 
 /// So many runs hold those of any row.
 pub(crate) const MOST_RUNS: usize = 65_536;
 
-/// Where to go on: a cursor; and where `runs` is not 0 a place inside a strip, after so many bits
-/// of it, whose row before it has so many runs, which stand apart.
+/// Where to continue: a cursor; and where `runs` is not 0 a place inside a strip, after so many
+/// bits of it, whose row before it has so many runs, which stand apart.
 #[repr(C)]
 #[derive(Clone, Copy)]
 pub struct FaxPlace {
@@ -52,17 +52,18 @@ impl FaxPlace {
     }
 }
 
-/// What a walk begins with that goes on at a place, or none where memory was refused for its runs.
+/// What a walk begins with that continues at a place, or none where memory was refused for its
+/// runs.
 // requires { place.now.runs ≤ length runs.now }
 // ensures { MatchOption result (0 < place.now.runs)
-//     (λ begun. begun ≡ Spec.place_begun place.now runs.now) }
-pub(crate) fn begun_at(alloc: Global, place: &FaxPlace, runs: &[u32]) -> Option<Begun> {
+//     (λ origin. origin ≡ Spec.place_begun place.now runs.now) }
+pub(crate) fn started_at(alloc: Global, place: &FaxPlace, runs: &[u32]) -> Option<WalkStart> {
     let at = place.cursor();
     if place.runs == 0 {
-        return Some(Begun::At(at));
+        return Some(WalkStart::AtCursor(at));
     }
     match Vec::from_slice(alloc, &runs[..place.runs as usize]) {
-        Ok(runs) => Some(Begun::Inside(LongCursor {
+        Ok(runs) => Some(WalkStart::AtLongCursor(LongCursor {
             at,
             bits: place.bits,
             runs,
@@ -71,7 +72,7 @@ pub(crate) fn begun_at(alloc: Global, place: &FaxPlace, runs: &[u32]) -> Option<
     }
 }
 
-/// Tells a place inside a strip, where its runs have room, and answers how it was told.
+/// Reports a place inside a strip, where its runs have room, and returns how it was reported.
 // requires { 0 < length found.now.runs }
 // ensures { Code.IsPlaceTold found.now place.old runs.old result place.new runs.new }
 pub(crate) fn tell_place(found: &LongCursor, place: &mut FaxPlace, runs: &mut [u32]) -> u32 {
@@ -92,13 +93,13 @@ pub(crate) fn tell_place(found: &LongCursor, place: &mut FaxPlace, runs: &mut [u
     status::DONE
 }
 
-/// Tells the place inside a strip after the rows that a walk has handed out, where there is one and
+/// Reports the place inside a strip after the rows that a walk has returned, where there is one and
 /// its runs have room.
-// requires some { 0 < walk.now.given }
+// requires some { 0 < walk.now.yielded }
 // requires none { place.old.runs ≡ 0 }
 // ensures { Code.IsInsideTold walk.now place.old runs.old place.new runs.new }
 fn tell_inside(walk: &Walk, place: &mut FaxPlace, runs: &mut [u32]) {
-    let Some(found) = walk.lend_place() else {
+    let Some(found) = walk.long_cursor_ref() else {
         return;
     };
     let Some(to) = Runs::put(found.reference, runs, 0) else {
@@ -112,11 +113,11 @@ fn tell_inside(walk: &Walk, place: &mut FaxPlace, runs: &mut [u32]) {
     };
 }
 
-/// Tells the place after so many rows, which a walk has handed out and no more: where they are
+/// Reports the place after so many rows, which a walk has returned and no more: where they are
 /// none, a place inside a strip stays.
-// requires given { 0 < count → walk.now.given ≡ count }
-// requires begun { count ≡ 0 → Code.IsBegunAt walk.now.begun place.old runs.old }
-// ensures place { Spec.IsAfterRows walk.now.file walk.now.begun cursor count place.new runs.new }
+// requires given { 0 < count → walk.now.yielded ≡ count }
+// requires origin { count ≡ 0 → Code.StartsAt walk.now.origin place.old runs.old }
+// ensures place { Spec.IsAfterRows walk.now.file walk.now.origin cursor count place.new runs.new }
 // ensures kept { Spec.KeepsRuns runs.old runs.new }
 // ensures no_runs { count ≡ 0 → runs.new ≡ runs.old }
 fn tell_after(walk: &Walk, cursor: Cursor, count: usize, place: &mut FaxPlace, runs: &mut [u32]) {
@@ -128,15 +129,15 @@ fn tell_after(walk: &Walk, cursor: Cursor, count: usize, place: &mut FaxPlace, r
     }
 }
 
-/// Tells the place before the next row, where rows stand before it and it may have no room in so
+/// Reports the place before the next row, where rows stand before it and it may have no room in so
 /// many numbers: a walk that has handed it out has passed the place.
-// requires { walk.now.given ≡ count }
-// ensures told { 0 < count → room < F.MOST → Spec.IsAfterRows walk.now.file walk.now.begun cursor
+// requires { walk.now.yielded ≡ count }
+// ensures told { 0 < count → room < F.MOST → Spec.IsAfterRows walk.now.file walk.now.origin cursor
 //     count place.new runs.new }
 // ensures none { count ≡ 0 → place.new ≡ place.old }
 // ensures no_runs { count ≡ 0 → runs.new ≡ runs.old }
 // ensures kept { Spec.KeepsRuns runs.old runs.new }
-pub(crate) fn place_before<F: RowFormat>(
+pub(crate) fn bit_offset<F: RowFormat>(
     walk: &Walk,
     cursor: Cursor,
     count: usize,
@@ -149,13 +150,13 @@ pub(crate) fn place_before<F: RowFormat>(
     }
 }
 
-/// Tells the place after the rows that were written. Where the next one had no room, the walk has
-/// passed it, and it was told before.
-// requires given { filled.now.stop ≢ NoRoom → walk.now.given ≡ filled.now.count }
-// requires begun { filled.now.count ≡ 0 → Code.IsBegunAt walk.now.begun place.old runs.old }
+/// Reports the place after the rows that were written. Where the next one had no room, the walk has
+/// passed it, and it was reported before.
+// requires given { filled.now.stop ≢ NoRoom → walk.now.yielded ≡ filled.now.count }
+// requires origin { filled.now.count ≡ 0 → Code.StartsAt walk.now.origin place.old runs.old }
 // requires told { 0 < filled.now.count → filled.now.stop ≡ NoRoom → Spec.IsAfterRows walk.now.file
-//     walk.now.begun filled.now.cursor filled.now.count place.old runs.old }
-// ensures { Spec.IsAfter walk.now.file walk.now.begun filled.now runs.old place.new runs.new }
+//     walk.now.origin filled.now.cursor filled.now.count place.old runs.old }
+// ensures { Spec.IsAfter walk.now.file walk.now.origin filled.now runs.old place.new runs.new }
 pub(crate) fn place_after(walk: &Walk, filled: &Filled, place: &mut FaxPlace, runs: &mut [u32]) {
     if filled.count == 0 || !filled.stop.is_no_room() {
         tell_after(walk, filled.cursor, filled.count, place, runs);

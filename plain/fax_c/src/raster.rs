@@ -25,7 +25,7 @@ pub(crate) fn put_zeros_to(out: &mut [u8], at: usize, to: usize) {
     clear(&mut out[at..to]);
 }
 
-/// Writes a row's bytes at a place that has room for them, and answers where they end.
+/// Writes a row's bytes at a place that has room for them, and returns where they end.
 // requires { at + Coded.packed_len (length row.now) ≤ length out.old }
 // ensures { Code.IsPutAt (Coded.packed_row row.now) out.old at (Some result) out.new }
 pub(crate) fn put_packed(row: &Row, out: &mut [u8], at: usize) -> usize {
@@ -35,7 +35,7 @@ pub(crate) fn put_packed(row: &Row, out: &mut [u8], at: usize) -> usize {
 }
 
 /// Writes a row's bytes at a place, and zeros after them up to the stride, which have room there,
-/// and answers where they end.
+/// and returns where they end.
 // requires short { Coded.packed_len (length row.now) ≤ stride }
 // requires room { at + stride ≤ length out.old }
 // ensures { Code.IsPutAt (Spec.padded_row stride row.now) out.old at (Some result) out.new }
@@ -47,7 +47,7 @@ pub(crate) fn put_in_stride(row: &Row, stride: usize, out: &mut [u8], at: usize)
 }
 
 /// Writes a row's bytes at a place, and zeros after them up to the stride, where they have room,
-/// and answers where they end.
+/// and returns where they end.
 // requires { at ≤ length out.old }
 // ensures { Code.IsPutAt (Spec.padded_row stride row.now) out.old at result out.new }
 pub(crate) fn put_padded(row: &Row, stride: usize, out: &mut [u8], at: usize) -> Option<usize> {

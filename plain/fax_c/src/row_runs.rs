@@ -9,7 +9,7 @@ use fax_walk::Cursor;
 use kit_std::alloc::Global;
 
 /// Writes the runs of rows of a file from a cursor on, as `faxpages_rows` writes their bytes.
-// ensures { Spec.TellsRows runs_of file.now (At (record { page = page; row = row })) rows.old
+// ensures { Spec.TellsRows runs_of file.now (AtCursor (record { page = page; row = row })) rows.old
 //     out.old rows.new out.new told.new result }
 pub fn faxpages_runs(
     alloc: Global,
@@ -41,7 +41,7 @@ pub fn faxpages_runs_from(
 }
 
 /// Writes the changing elements of rows of a file from a cursor on.
-// ensures { Spec.TellsRows changes_of file.now (At (record { page = page; row = row })) rows.old
+// ensures { Spec.TellsRows changes_of file.now (AtCursor (record { page = page; row = row })) rows.old
 //     out.old rows.new out.new told.new result }
 pub fn faxpages_changes(
     alloc: Global,

@@ -1,10 +1,10 @@
 // Made by tools/plain-rust of crates/fax_c/src/rows.rt: change that.
 //! The rows of a file, written one after another.
 
-use crate::filled::{Filled, Stop};
+use crate::fill::{Filled, Stop};
 use crate::format::{Packed, RowFormat};
 use crate::forms::next_form;
-use crate::places::{FaxPlace, begun_at, place_after, place_before};
+use crate::places::{FaxPlace, bit_offset, place_after, started_at};
 use crate::told::FaxTold;
 use fax_walk::{Cursor, End, Pages, Walk};
 use kit_std::alloc::Global;
@@ -24,7 +24,7 @@ pub struct FaxRow {
     pub width: u32,
 }
 
-/// Writes the next row of a walk at a place, and answers where it lies.
+/// Writes the next row of a walk at a place, and returns where it lies.
 // requires { at ≤ length out.old }
 // ensures put { Code.IsPut F.numbers walk.old out.old at result walk.new out.new }
 // ensures room { result ≡ Err NoRoom → length out.old < at + F.MOST }
@@ -40,18 +40,18 @@ fn put_next<F: RowFormat>(walk: &mut Walk, out: &mut [F::Number], at: usize) -> 
             }),
             None => Err(Stop::NoRoom),
         },
-        Ok(None) => Err(Stop::Ended(End::Proper)),
+        Ok(None) => Err(Stop::Ended(End::EndOfPages)),
         Err(fault) => Err(Stop::of_fault(fault)),
     }
 }
 
 /// Writes the first rows of a walk, as many as are asked for and have room, and where each lies.
 /// The place, with which the walk began, is then the one after them.
-// requires none { walk.old.given ≡ 0 }
-// requires begun { Code.IsBegunAt walk.old.begun place.old runs.old }
-// ensures filled { Spec.AreRowsFilled F.numbers walk.old.file walk.old.begun rows.old out.old
+// requires none { walk.old.yielded ≡ 0 }
+// requires origin { Code.StartsAt walk.old.origin place.old runs.old }
+// ensures filled { Spec.AreRowsFilled F.numbers walk.old.file walk.old.origin rows.old out.old
 //     result rows.new out.new }
-// ensures place { PlaceSpec.IsAfter walk.old.file walk.old.begun result runs.old place.new
+// ensures place { PlaceSpec.IsAfter walk.old.file walk.old.origin result runs.old place.new
 //     runs.new }
 fn fill<F: RowFormat>(
     walk: &mut Walk,
@@ -60,15 +60,15 @@ fn fill<F: RowFormat>(
     rows: &mut [FaxRow],
     out: &mut [F::Number],
 ) -> Filled {
-    // Where less room is left than the largest row takes, the place is told before a row is read: a
-    // walk that has read the row has passed the place, and cannot step back. So the runs after
-    // those of the place may change, of the first 65,536: to keep the others would cost a copy of
-    // all.
+    // Where less room is left than the largest row takes, the place is reported before a row is
+    // read: a walk that has read the row has passed the place, and cannot step back. So the runs
+    // after those of the place may change, of the first 65,536: to keep the others would cost a
+    // copy of all.
     let mut count = 0;
     let mut used = 0;
     while count < rows.len() {
         let cursor = walk.cursor();
-        place_before::<F>(walk, cursor, count, out.len() - used, place, runs);
+        bit_offset::<F>(walk, cursor, count, out.len() - used, place, runs);
         match put_next::<F>(walk, out, used) {
             Ok(row) => {
                 rows[count] = row;
@@ -98,7 +98,7 @@ fn fill<F: RowFormat>(
 }
 
 /// Writes the rows of a file from a cursor on.
-// ensures { Spec.TellsRows F.numbers file.now (At cursor) rows.old out.old rows.new out.new
+// ensures { Spec.TellsRows F.numbers file.now (AtCursor cursor) rows.old out.old rows.new out.new
 //     told.new result }
 pub(crate) fn fill_at<F: RowFormat>(
     alloc: Global,
@@ -110,14 +110,14 @@ pub(crate) fn fill_at<F: RowFormat>(
 ) -> u32 {
     let mut place = FaxPlace::at(cursor);
     let mut walk = Walk::resume(alloc, file, cursor);
-    fill::<F>(&mut walk, &mut place, &mut [], rows, out).tell(told)
+    fill::<F>(&mut walk, &mut place, &mut [], rows, out).fill_result(told)
 }
 
 /// How the rows end at a row of a page that the file has not, where they end so at its first row.
 // ensures { result ≡ Code.end_at_row end row }
 fn end_at_row(end: End, row: u32) -> End {
     match end {
-        End::Proper if row > 0 => End::Outside,
+        End::EndOfPages if row > 0 => End::Outside,
         _ => end,
     }
 }
@@ -153,7 +153,7 @@ fn stop_at_refusal(file: &[u8], at: Cursor, asked: usize) -> Stop {
 }
 
 /// Writes the rows of a file from a place on, which is then the one after them. A place that lacks
-/// runs is told as one outside the file.
+/// runs is reported as one outside the file.
 // ensures { PlaceSpec.GoesOn F.numbers file.now
 //     (record { place = place.old; runs = runs.old; rows = rows.old; out = out.old })
 //     (record { place = place.new; runs = runs.new; rows = rows.new; out = out.new }) told.new
@@ -170,19 +170,19 @@ pub(crate) fn fill_from<F: RowFormat>(
     // A place that lacks its runs is OUTSIDE: NO_ROOM would have a caller grow `out` for ever.
     let cursor = place.cursor();
     if place.lacks_runs(runs) {
-        return Filled::nothing(cursor, Stop::Ended(End::Outside)).tell(told);
+        return Filled::nothing(cursor, Stop::Ended(End::Outside)).fill_result(told);
     }
-    let Some(begun) = begun_at(alloc, place, runs) else {
+    let Some(origin) = started_at(alloc, place, runs) else {
         let stop = stop_at_refusal(file, cursor, rows.len());
-        return Filled::nothing(cursor, stop).tell(told);
+        return Filled::nothing(cursor, stop).fill_result(told);
     };
-    let mut walk = Walk::begin(alloc, file, begun);
-    fill::<F>(&mut walk, place, runs, rows, out).tell(told)
+    let mut walk = Walk::begin(alloc, file, origin);
+    fill::<F>(&mut walk, place, runs, rows, out).fill_result(told)
 }
 
 /// Writes rows of a file from a cursor on as packed bytes, one after another, at most as many as
 /// `rows` has room for, and there where each lies.
-// ensures { Spec.TellsRows packed_row file.now (At (record { page = page; row = row })) rows.old
+// ensures { Spec.TellsRows packed_row file.now (AtCursor (record { page = page; row = row })) rows.old
 //     out.old rows.new out.new told.new result }
 pub fn faxpages_rows(
     alloc: Global,

@@ -2,7 +2,7 @@
 //! What is left of a damaged page or strip, in a raster, and the rows that are lost.
 
 use crate::faults::fault_number;
-use crate::filled::{Filled, Stop};
+use crate::fill::{Filled, Stop};
 use crate::forms::FaxForm;
 use crate::places::FaxPlace;
 use crate::raster::{packed_len, put_in_stride, put_zeros_to};
@@ -13,7 +13,7 @@ use crate::told::FaxTold;
 use crate::uncounted_strip::{tell_end, uncounted_form};
 use fax_files::Cause;
 use fax_page::{RowsEnd, StripForm};
-use fax_walk::{Cursor, PageLeft, PagePart, RowsLeft, Stretch};
+use fax_walk::{Cursor, DamagedPage, LostRows, SalvagedPart, SalvagedRows};
 use kit_std::alloc::Global;
 
 /// Rows of a page or a strip that are lost, one after another.
@@ -31,7 +31,7 @@ pub struct FaxLost {
 impl FaxLost {
     /// A stretch as it stands in memory of the caller.
     // ensures { result ≡ stretch_lost stretch.now }
-    fn of(stretch: &Stretch) -> Self {
+    fn of(stretch: &LostRows) -> Self {
         FaxLost {
             row: stretch.row,
             rows: stretch.rows,
@@ -44,13 +44,19 @@ impl FaxLost {
 /// cause.
 // requires { Walk.HasRoom lost rows }
 // ensures { result ≡ Walk.longer lost page row rows cause }
-pub(crate) fn longer(lost: Option<Stretch>, page: u32, row: u32, rows: u32, cause: Cause) -> Stretch {
+pub(crate) fn longer(
+    lost: Option<LostRows>,
+    page: u32,
+    row: u32,
+    rows: u32,
+    cause: Cause,
+) -> LostRows {
     match lost {
-        Some(stretch) => Stretch {
+        Some(stretch) => LostRows {
             rows: stretch.rows + rows,
             ..stretch
         },
-        None => Stretch {
+        None => LostRows {
             page,
             row,
             rows,
@@ -60,10 +66,10 @@ pub(crate) fn longer(lost: Option<Stretch>, page: u32, row: u32, rows: u32, caus
 }
 
 /// Writes a stretch that has ended, if one has, after so many others, where it has room, and
-/// answers how many there are now.
+/// returns how many there are now.
 // requires { count ≤ 1000000 }
 // ensures { Code.IsStretchPut ended lost.old count result lost.new }
-pub(crate) fn put_stretch(ended: Option<Stretch>, lost: &mut [FaxLost], count: usize) -> usize {
+pub(crate) fn put_stretch(ended: Option<LostRows>, lost: &mut [FaxLost], count: usize) -> usize {
     let Some(stretch) = ended else {
         return count;
     };
@@ -86,7 +92,7 @@ fn holds_rows(len: usize, width: u32, rows: u32, stride: usize) -> bool {
     }
 }
 
-/// Writes so many rows that are lost into a raster that has room for them, and answers where they
+/// Writes so many rows that are lost into a raster that has room for them, and returns where they
 /// end.
 // requires room { at + rows * stride ≤ length out.old }
 // ensures { IsPutAt (replicate (rows * stride) 0) out.old at (Some result) out.new }
@@ -108,13 +114,13 @@ fn stop_after(stretches: usize, room: usize) -> Stop {
 
 /// Writes all rows that are left into a raster that has room for them, and the first stretches that
 /// are lost, as many as have room.
-// requires begun { left.old.row ≡ 0 }
-// requires few { left.old.rows ≤ 1000000 }
-// requires short { Coded.packed_len left.old.width ≤ stride }
-// requires room { left.old.rows * stride ≤ length out.old }
-// ensures { Code.AreAllWritten left.old page stride out.old lost.old result out.new lost.new }
+// requires origin { remaining.old.row ≡ 0 }
+// requires few { remaining.old.rows ≤ 1000000 }
+// requires short { Coded.packed_len remaining.old.width ≤ stride }
+// requires room { remaining.old.rows * stride ≤ length out.old }
+// ensures { Code.AreAllWritten remaining.old page stride out.old lost.old result out.new lost.new }
 fn fill_left(
-    left: &mut RowsLeft,
+    remaining: &mut SalvagedRows,
     page: u32,
     stride: usize,
     out: &mut [u8],
@@ -124,15 +130,15 @@ fn fill_left(
     let mut at = 0;
     let mut count = 0;
     let mut ended = None;
-    while let Some(part) = left.next_part() {
+    while let Some(part) = remaining.next_part() {
         match part {
-            PagePart::Found => {
-                at = put_in_stride(left.row(), stride, out, at);
+            SalvagedPart::Found => {
+                at = put_in_stride(remaining.row(), stride, out, at);
                 count = put_stretch(ended, lost, count);
                 ended = None;
                 row += 1;
             }
-            PagePart::Lost { rows, cause } => {
+            SalvagedPart::Lost { rows, cause } => {
                 at = put_lost(rows, stride, out, at);
                 ended = Some(longer(ended, page, row, rows, cause));
                 row += rows;
@@ -148,7 +154,8 @@ fn fill_left(
     }
 }
 
-/// Where rows of unknown height end that are salvaged up to a cursor: at the last one, which is lost,
+/// Where rows of unknown height end that are salvaged up to a cursor: at the last one, which is
+/// lost,
 /// where no EOL is left after it, and else after the last one.
 // ensures { result ≡ Spec.end_place cursor end }
 fn end_place(cursor: Cursor, end: RowsEnd) -> FaxPlace {
@@ -159,19 +166,18 @@ fn end_place(cursor: Cursor, end: RowsEnd) -> FaxPlace {
     FaxPlace::at(Cursor { row, ..cursor })
 }
 
-/// Tells what was written of rows of unknown height, and how they end, where all stretches that are
-/// lost had room.
+/// Reports what was written of rows of unknown height, and how they end, where all stretches that
+/// are lost had room.
 // requires { Code.IsDoneOrFull filled.now.stop }
 // ensures { Spec.IsLeftTold filled.now end told.new result }
 fn tell_left(filled: &Filled, end: RowsEnd, told: &mut FaxTold) -> u32 {
     if filled.stop.is_no_room() {
-        return filled.tell(told);
+        return filled.fill_result(told);
     }
     tell_end(filled, &end_place(filled.cursor, end), end, told)
 }
 
-/// Writes what is left of a strip whose rows nobody counted into a raster, and the rows that are
-/// lost.
+/// Writes what is left of a strip of unknown height into a raster, and the rows that are lost.
 // requires count { length strip.now ≤ 536870911 }
 // requires limits { IsStripForm form }
 // ensures { Spec.WritesUncounted form (bits form.order strip.now) stride
@@ -187,18 +193,18 @@ fn salvage_uncounted(
     told: &mut FaxTold,
 ) -> u32 {
     let nothing = Cursor { page: 0, row: 0 };
-    let Ok(mut found) = RowsLeft::of_uncounted(alloc, strip, form) else {
-        return Filled::nothing(nothing, Stop::Memory).tell(told);
+    let Ok(mut found) = SalvagedRows::of_uncounted(alloc, strip, form) else {
+        return Filled::nothing(nothing, Stop::Memory).fill_result(told);
     };
     let row = found.rows;
     if !holds_rows(out.len(), form.width, row, stride) {
-        return Filled::nothing(Cursor { page: 0, row }, Stop::NoRoom).tell(told);
+        return Filled::nothing(Cursor { page: 0, row }, Stop::NoRoom).fill_result(told);
     }
     let filled = fill_left(&mut found.rows_left, 0, stride, out, lost);
     tell_left(&filled, found.end, told)
 }
 
-/// Writes what is left of a file's page into a raster, and the rows that are lost, and tells the
+/// Writes what is left of a file's page into a raster, and the rows that are lost, and says the
 /// page's form.
 // ensures { Spec.TellsSalvaged file.now page stride form.old form.new
 //     (record { raster = out.old; lost = lost.old }) (record { raster = out.new; lost = lost.new })
@@ -217,23 +223,23 @@ pub fn faxpages_salvage(
     // room for fewer: so a caller knows how large it has to be. (rows + 1) / 2 lines are always
     // enough.
     let cursor = Cursor { page, row: 0 };
-    let found = match PageLeft::at(file, page) {
+    let found = match DamagedPage::at(file, page) {
         Ok(found) => found,
-        Err(end) => return Filled::nothing(cursor, Stop::Ended(end)).tell(told),
+        Err(end) => return Filled::nothing(cursor, Stop::Ended(end)).fill_result(told),
     };
     let its = found.form();
     *form = FaxForm::of(&its);
     if !holds_rows(out.len(), its.width, its.rows, stride) {
-        return Filled::nothing(cursor, Stop::NoRoom).tell(told);
+        return Filled::nothing(cursor, Stop::NoRoom).fill_result(told);
     }
     match found.rows(alloc) {
-        Ok(mut left) => fill_left(&mut left, page, stride, out, lost).tell(told),
-        Err(_memory) => Filled::nothing(cursor, Stop::Memory).tell(told),
+        Ok(mut remaining) => fill_left(&mut remaining, page, stride, out, lost).fill_result(told),
+        Err(_memory) => Filled::nothing(cursor, Stop::Memory).fill_result(told),
     }
 }
 
-/// Writes what is left of a strip into a raster, and the rows that are lost; where nobody counted
-/// its rows, up to their end.
+/// Writes what is left of a strip into a raster, and the rows that are lost; where the height is
+/// unknown, up to their end.
 // ensures { Spec.TellsStripSalvaged
 //     (record { strip = strip.now; form = form.now; stride = stride })
 //     (record { raster = out.old; lost = lost.old }) (record { raster = out.new; lost = lost.new })
@@ -255,10 +261,10 @@ pub fn faxpages_salvage_strip(
     };
     let cursor = Cursor { page: 0, row: 0 };
     if !holds_rows(out.len(), form.width, form.rows, stride) {
-        return Filled::nothing(cursor, Stop::NoRoom).tell(told);
+        return Filled::nothing(cursor, Stop::NoRoom).fill_result(told);
     }
-    match RowsLeft::of_strip(alloc, strip, form) {
-        Ok(mut left) => fill_left(&mut left, 0, stride, out, lost).tell(told),
-        Err(_memory) => Filled::nothing(cursor, Stop::Memory).tell(told),
+    match SalvagedRows::of_strip(alloc, strip, form) {
+        Ok(mut remaining) => fill_left(&mut remaining, 0, stride, out, lost).fill_result(told),
+        Err(_memory) => Filled::nothing(cursor, Stop::Memory).fill_result(told),
     }
 }

@@ -28,7 +28,7 @@ pub(crate) const NO_OPTIONS: u32 = 7;
 /// A file would be too large.
 pub(crate) const TOO_LARGE: u32 = 8;
 
-/// Rows that nobody counted end with the data, after a whole row.
+/// Rows of a strip of unknown height end with the data, after a whole row.
 pub(crate) const DATA_END: u32 = 9;
 
 /// More bytes of a strip are waited for.

@@ -2,7 +2,7 @@
 //! Strips of which the first bytes are there, read, where more may follow.
 
 use crate::faults::FaxFault;
-use crate::filled::{Filled, Stop};
+use crate::fill::{Filled, Stop};
 use crate::places::{FaxPlace, MOST_RUNS};
 use crate::status;
 use crate::strip_form::FaxStrip;
@@ -17,7 +17,7 @@ use kit_std::alloc::Global;
 /// No strip that is read has more bits.
 const MOST_BITS: u64 = 8 * MOST_BYTES as u64;
 
-/// Whether a row is due at a place that is after these bytes, and that a strip may reach.
+/// Whether a row is expected at a place that is after these bytes, and that a strip may reach.
 // requires count { length strip.now ≤ 536870911 }
 // ensures ahead { IsTrue result → Code.IsAhead form strip.now place.now }
 // ensures within { result ≡ false → Code.IsAhead form strip.now place.now → ⊥ }
@@ -43,8 +43,8 @@ fn may_change(strip: &[u8], form: StripForm, place: &FaxPlace, stop: Stop) -> bo
     }
 }
 
-/// Whether rows that nobody counted and that end so at a place may end otherwise where more bytes
-/// follow: with an end mark, where one may stand there.
+/// Whether rows of a strip of unknown height and that end so at a place may end otherwise where
+/// more bytes follow: with an end mark, where one may stand there.
 // requires count { length strip.now ≤ 536870911 }
 // ensures changes { IsTrue result → Spec.MayChange form.coding
 //     (drop place.now.bits (bits form.order strip.now)) end }
@@ -67,7 +67,7 @@ fn end_may_change(strip: &[u8], form: StripForm, place: &FaxPlace, end: RowsEnd)
     }
 }
 
-/// Whether what is told of a strip up to a place may be something else where more bytes follow.
+/// Whether what is reported of a strip up to a place may be something else where more bytes follow.
 // requires count { length strip.now ≤ 536870911 }
 // ensures changes { IsTrue result → Code.MayGoOn form strip.now place.now stop end }
 // ensures stays { result ≡ false → Code.MayGoOn form strip.now place.now stop end → ⊥ }
@@ -87,7 +87,7 @@ fn may_go_on(
     }
 }
 
-/// Tells what was written, and that more bytes are waited for.
+/// Reports what was written, and that more bytes are waited for.
 // ensures { Code.IsMoreTold filled.now told.new result }
 fn tell_more(filled: &Filled, told: &mut FaxTold) -> u32 {
     *told = FaxTold {
@@ -101,7 +101,7 @@ fn tell_more(filled: &Filled, told: &mut FaxTold) -> u32 {
 }
 
 /// Reads rows of a strip of which the first bytes are there into a raster, as `faxpages_strip_rows`
-/// does, where what is told holds whatever bytes follow.
+/// does, where what is reported holds whatever bytes follow.
 // ensures { Spec.TellsStripPart
 //     (record { strip = strip.now; form = form.now; stride = stride })
 //     (record { place = place.old; runs = runs.old; raster = out.old })

@@ -54,7 +54,7 @@ impl FaxStripReport {
         }
     }
 
-    /// What was found in rows that nobody counted.
+    /// What was found in rows of a strip of unknown height.
     // ensures { result ≡ report_of_end found.now.rows found.now.end found.now.notes }
     fn found(found: &UncountedNotes) -> Self {
         match found.end {
@@ -67,7 +67,7 @@ impl FaxStripReport {
     }
 }
 
-/// What `faxpages_strip_check` does where nobody counted the rows.
+/// What `faxpages_strip_check` does where the height is unknown.
 // ensures { Spec.TellsUncountedReport strip.now form.now report.old report.new result }
 fn check_uncounted(alloc: Global, strip: &[u8], form: &FaxStrip, report: &mut FaxStripReport) -> u32 {
     let Some(form) = uncounted_form(strip, form) else {
@@ -85,7 +85,7 @@ fn check_uncounted(alloc: Global, strip: &[u8], form: &FaxStrip, report: &mut Fa
     }
 }
 
-/// Reads all rows of a strip, and tells what stands after them.
+/// Reads all rows of a strip, and says what stands after them.
 // ensures { Spec.TellsStripReport strip.now form.now report.old report.new result }
 pub fn faxpages_strip_check(
     alloc: Global,

@@ -1,7 +1,7 @@
 // Made by tools/plain-rust of crates/fax_c/src/strip_rows.rt: change that.
 //! Strips with no file around them, read.
 
-use crate::filled::{Filled, Stop};
+use crate::fill::{Filled, Stop};
 use crate::format::put_all_runs;
 use crate::places::{FaxPlace, MOST_RUNS};
 use crate::raster::{packed_len, put_in_stride};
@@ -10,7 +10,7 @@ use crate::strip_form::FaxStrip;
 use crate::told::FaxTold;
 use crate::uncounted_strip::{end_at, form_of_rows, tell_read};
 use fax_files::Cause;
-use fax_page::{PlaceFault, RowBefore, StripFault, StripForm, StripReader};
+use fax_page::{PlaceFault, ReferenceRow, StripFault, StripForm, StripReader};
 use fax_walk::{Cursor, End};
 use kit_std::alloc::Global;
 
@@ -29,20 +29,20 @@ pub(crate) fn readable_form(strip: &[u8], given: &FaxStrip) -> Option<StripForm>
 
 /// The row before a place: white where it has no runs. `None` where they are not in their room.
 // ensures { Code.IsRowBefore place.now runs.now result }
-pub(crate) fn row_before<'a>(place: &FaxPlace, runs: &'a [u32]) -> Option<RowBefore<'a>> {
+pub(crate) fn row_before<'a>(place: &FaxPlace, runs: &'a [u32]) -> Option<ReferenceRow<'a>> {
     if place.runs == 0 {
-        Some(RowBefore::White)
+        Some(ReferenceRow::White)
     } else if place.lacks_runs(runs) {
         None
     } else {
-        Some(RowBefore::Runs(&runs[..place.runs as usize]))
+        Some(ReferenceRow::Runs(&runs[..place.runs as usize]))
     }
 }
 
-/// A reader of a strip before the row that is due at a place, or why there is none.
+/// A reader of a strip before the next row at a place, or why there is none.
 // requires count { length strip.now ≤ 536870911 }
 // requires limits { IsStripForm form }
-// requires due { place.now.row < form.rows }
+// requires upcoming { place.now.row < form.rows }
 // ensures { Code.IsReaderAt form strip.now place.now runs.now result }
 fn reader_at<'a>(
     alloc: Global,
@@ -65,7 +65,7 @@ fn reader_at<'a>(
 // ensures { result ≡ Spec.stop_in_strip page row fault }
 fn stop_of(page: u32, row: u32, fault: Option<StripFault>) -> Stop {
     match fault {
-        None => Stop::Ended(End::Proper),
+        None => Stop::Ended(End::EndOfPages),
         Some(fault) => Stop::Ended(End::Fault {
             page,
             row,
@@ -85,7 +85,7 @@ fn read_next(reader: &mut StripReader, page: u32) -> Option<Stop> {
     }
 }
 
-/// Reads the rows of a strip into a raster from the row that is due on, as many as have room.
+/// Reads the rows of a strip into a raster from the next row on, as many as have room.
 // requires no_fault { reader.old.fault ≡ None }
 // requires stride { Coded.packed_len reader.old.form.width ≤ stride }
 // requires some { 0 < stride }
@@ -115,11 +115,11 @@ fn fill_strip(reader: &mut StripReader, page: u32, stride: usize, out: &mut [u8]
     }
 }
 
-/// Tells the place of the row that is due, after so many rows: where they are none, it stays.
+/// Reports the place of the next row, after so many rows: where they are none, it stays.
 // requires room { 65536 ≤ length runs.old }
 // requires few { length reader.now.bytes ≤ 536870911 }
-// ensures { Code.IsDueTold reader.now count place.old runs.old place.new runs.new }
-fn tell_due(reader: &StripReader, count: usize, place: &mut FaxPlace, runs: &mut [u32]) {
+// ensures { Code.IsUpcomingTold reader.now count place.old runs.old place.new runs.new }
+fn tell_upcoming(reader: &StripReader, count: usize, place: &mut FaxPlace, runs: &mut [u32]) {
     if count == 0 {
         return;
     }
@@ -138,7 +138,7 @@ fn stop_before(form: StripForm, place: &FaxPlace, stride: usize, room: usize) ->
     if stride < packed_len(form.width) || room < stride {
         Some(Stop::NoRoom)
     } else if place.row == form.rows {
-        Some(Stop::Ended(End::Proper))
+        Some(Stop::Ended(End::EndOfPages))
     } else if place.row > form.rows {
         Some(Stop::Ended(End::Outside))
     } else {
@@ -168,7 +168,7 @@ pub(crate) fn read_strip(
     match reader_at(alloc, strip, form, place, runs) {
         Ok(mut reader) => {
             let filled = fill_strip(&mut reader, place.page, stride, out);
-            tell_due(&reader, filled.count, place, runs);
+            tell_upcoming(&reader, filled.count, place, runs);
             filled
         }
         Err(stop) => Filled::nothing(place.cursor(), stop),

@@ -1,9 +1,9 @@
 // Made by tools/plain-rust of crates/fax_c/src/told.rt: change that.
-//! What a call tells.
+//! What a call says.
 
 use crate::faults::FaxFault;
 
-/// What a call wrote, where to go on, and the fault that it met.
+/// What a call wrote, where to continue, and the fault that it met.
 #[repr(C)]
 #[derive(Clone, Copy)]
 pub struct FaxTold {

@@ -1,20 +1,19 @@
 // Made by tools/plain-rust of crates/fax_c/src/uncounted_strip.rt: change that.
-//! Rows of a strip that nobody counted.
+//! Rows of a strip of unknown height.
 
 use crate::faults::FaxFault;
-use crate::filled::{Filled, Stop};
+use crate::fill::{Filled, Stop};
 use crate::places::FaxPlace;
 use crate::status;
 use crate::strip_form::FaxStrip;
 use crate::strip_rows::readable_form;
 use crate::told::FaxTold;
 use fax_files::Cause;
-use fax_page::{MOST_ROWS, RowsEnd, StripFault, StripForm, end_of_rows};
+use fax_page::{MOST_ROWS, RowsEnd, StripFault, StripForm, classify_end};
 use fax_rows::BitSource;
 use fax_walk::End;
 
-/// The form in which a strip of so many bytes is read whose rows nobody counted, if these numbers
-/// are one.
+/// The form in which a strip of so many bytes is read of unknown height, if these numbers are one.
 // ensures { MatchOption result
 //     ((form : Form) → Spec.IsReadableUncounted strip.now given.now form → ⊥)
 //     (Spec.IsReadableUncounted strip.now given.now) }
@@ -29,8 +28,8 @@ pub(crate) fn uncounted_form(strip: &[u8], given: &FaxStrip) -> Option<StripForm
     readable_form(strip, &most)
 }
 
-/// The form in which a strip is read, of counted rows or of such as nobody counted, if these
-/// numbers are one.
+/// The form in which a strip is read, of counted rows or those of unknown height, if these numbers
+/// are one.
 // ensures form { MatchOption result
 //     ((form : Form) → Spec.IsReadableIn strip.now given.now form → ⊥)
 //     (Spec.IsReadableIn strip.now given.now) }
@@ -43,7 +42,7 @@ pub(crate) fn form_of_rows(strip: &[u8], given: &FaxStrip) -> Option<StripForm> 
     }
 }
 
-/// The number that a call answers where rows end so that nobody counted.
+/// The number that a call returns where rows of a strip of unknown height end so.
 // ensures { result ≡ Told.end_status end }
 pub(crate) fn end_status(end: RowsEnd) -> u32 {
     match end {
@@ -53,20 +52,20 @@ pub(crate) fn end_status(end: RowsEnd) -> u32 {
     }
 }
 
-/// Goes on by so many bits, or past all of them where there are fewer.
-// ensures { source.new.left ≡ drop bits source.old.left }
+/// Advances by so many bits, or past all of them where there are fewer.
+// ensures { source.new.remaining ≡ drop bits source.old.remaining }
 fn go_on(source: &mut BitSource, bits: u64) {
-    let left = source.remaining();
-    if bits < left {
+    let remaining = source.remaining();
+    if bits < remaining {
         source.skip(bits);
     } else {
-        source.skip(left);
+        source.skip(remaining);
     }
 }
 
 /// The bits of a strip from a place on.
 // requires count { length strip.now ≤ 536870911 }
-// ensures { result.left ≡ drop place.now.bits (bits form.order strip.now) }
+// ensures { result.remaining ≡ drop place.now.bits (bits form.order strip.now) }
 pub(crate) fn source_at<'a>(strip: &'a [u8], form: StripForm, place: &FaxPlace) -> BitSource<'a> {
     let mut source = BitSource::new(strip, form.order);
     go_on(&mut source, u64::from(place.bits));
@@ -78,7 +77,7 @@ pub(crate) fn source_at<'a>(strip: &'a [u8], form: StripForm, place: &FaxPlace) 
 // ensures { result ≡ Spec.met_in_strip stop }
 fn met_in_strip(stop: Stop) -> Option<Option<StripFault>> {
     match stop {
-        Stop::Ended(End::Proper) => Some(None),
+        Stop::Ended(End::EndOfPages) => Some(None),
         Stop::Ended(
             End::Fault {
                 cause: Cause::Strip(fault),
@@ -89,8 +88,8 @@ fn met_in_strip(stop: Stop) -> Option<Option<StripFault>> {
     }
 }
 
-/// How rows end that nobody counted and that are read up to a place, where the strip itself stopped
-/// them.
+/// How the rows of a strip of unknown height end and that are read up to a place, where the strip
+/// itself stopped them.
 // requires count { length strip.now ≤ 536870911 }
 // ensures { Spec.IsEndAt given.now form strip.now place.now stop result }
 pub(crate) fn end_at(
@@ -107,10 +106,10 @@ pub(crate) fn end_at(
         return None;
     };
     let source = source_at(strip, form, place);
-    Some(end_of_rows(&source, form.coding, place.row, met))
+    Some(classify_end(&source, form.coding, place.row, met))
 }
 
-/// Tells what was written of rows that end so at a place, and answers how the call ended.
+/// Reports what was written of rows that end so at a place, and returns how the call ended.
 // ensures { Spec.IsRowsEndTold filled.now place.now end told.new result }
 pub(crate) fn tell_end(filled: &Filled, place: &FaxPlace, end: RowsEnd, told: &mut FaxTold) -> u32 {
     *told = FaxTold {
@@ -123,8 +122,8 @@ pub(crate) fn tell_end(filled: &Filled, place: &FaxPlace, end: RowsEnd, told: &m
     end_status(end)
 }
 
-/// Tells what was written, and how the rows end at a place, if that is to be told, and answers how
-/// the call ended.
+/// Reports what was written, and how the rows end at a place, if that is to be reported, and
+/// returns how the call ended.
 // ensures { Spec.IsReadTold filled.now place.now end told.new result }
 pub(crate) fn tell_read(
     filled: &Filled,
@@ -134,6 +133,6 @@ pub(crate) fn tell_read(
 ) -> u32 {
     match end {
         Some(end) => tell_end(filled, place, end, told),
-        None => filled.tell(told),
+        None => filled.fill_result(told),
     }
 }

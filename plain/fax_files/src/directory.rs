@@ -40,7 +40,7 @@ impl<'a> Directory<'a> {
 
     /// The same directory once more.
     // ensures { result ≡ self.now }
-    pub(crate) fn again(&self) -> Self {
+    pub(crate) fn fork(&self) -> Self {
         Directory {
             bytes: self.bytes,
             endian: self.endian,
@@ -106,8 +106,8 @@ impl<'a> Directory<'a> {
         let file = self.file();
         let count = entry_count(&file, self.offset);
         for k in 1..count {
-            let place = self.offset + 2 + 12 * k as usize;
-            if file.u16_at(place - 12) >= file.u16_at(place) {
+            let offset = self.offset + 2 + 12 * k as usize;
+            if file.u16_at(offset - 12) >= file.u16_at(offset) {
                 return false;
             }
         }

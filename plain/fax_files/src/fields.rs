@@ -132,13 +132,13 @@ impl<'d, 'a> Fields<'d, 'a> {
     /// The directory.
     // ensures { result ≡ self.now }
     pub fn directory(&self) -> Directory<'a> {
-        self.directory.again()
+        self.directory.fork()
     }
 
     /// The first entry of a tag of `TAGS`.
     // requires { IsTrue (is_sought tag) }
     // ensures first { result ≡ Spec.field (entries_of self.now) tag }
-    // ensures inside { IfSome result (λ entry. entry.place + 4 ≤ length self.now.file) }
+    // ensures inside { IfSome result (λ entry. entry.offset + 4 ≤ length self.now.file) }
     pub fn first(&self, tag: u16) -> Option<Entry> {
         self.first.first(tag)
     }
@@ -146,7 +146,7 @@ impl<'d, 'a> Fields<'d, 'a> {
     /// The first entry of a tag, which has to be there.
     // requires { IsTrue (is_sought tag) }
     // ensures exact { result ≡ Spec.needed (entries_of self.now) tag }
-    // ensures inside { IfOk result (λ entry. entry.place + 4 ≤ length self.now.file) }
+    // ensures inside { IfOk result (λ entry. entry.offset + 4 ≤ length self.now.file) }
     pub fn needed(&self, tag: u16) -> Result<Entry, FileFault> {
         self.first(tag).ok_or(FileFault::MissingField(tag))
     }

@@ -146,7 +146,7 @@ fn page_resolution(fields: &Fields) -> Resolution {
 // ensures exact { result
 //     ≡ Steps.strip_field fields.now.endian fields.now.file (entries_of fields.now) tag strips }
 // ensures found { IfOk result (λ entry. Entries.field (entries_of fields.now) tag ≡ Some entry) }
-// ensures inside { IfOk result (λ entry. entry.place + 4 ≤ length fields.now.file) }
+// ensures inside { IfOk result (λ entry. entry.offset + 4 ≤ length fields.now.file) }
 // ensures enough { IfOk result (λ entry.
 //     IsTrue (Entries.has_integers fields.now.endian fields.now.file entry strips)) }
 fn strip_field(fields: &Fields, tag: u16, strips: u32) -> Result<Entry, FileFault> {

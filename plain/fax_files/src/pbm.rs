@@ -11,7 +11,7 @@ use kit_std::marker::Model;
 use thiserror::Error;
 
 /// A number above each limit, which stands for all larger ones.
-const OVER: u32 = 1_000_001;
+const ABOVE_LIMITS: u32 = 1_000_001;
 
 /// Why no image is read.
 #[derive(Clone, Copy, Debug, PartialEq, Eq, Error)]
@@ -58,20 +58,20 @@ fn is_digit(byte: u8) -> bool {
 }
 
 /// White space, or the `#` of a comment.
-// ensures { result ≡ Spec.begins_piece byte }
-fn begins_piece(byte: u8) -> bool {
+// ensures { result ≡ Spec.starts_white_space byte }
+fn starts_white_space(byte: u8) -> bool {
     byte == b'#' || is_white_space(byte)
 }
 
 /// What stands after white space and comments, if anything does.
-// ensures some { IfSome result (λ rest. Spec.after_pieces false bytes.now ≡ Some rest.now) }
-// ensures none { IfNone result (Spec.after_pieces false bytes.now ≡ None) }
-fn after_pieces(bytes: &[u8]) -> Option<&[u8]> {
+// ensures some { IfSome result (λ rest. Spec.skip_white_space false bytes.now ≡ Some rest.now) }
+// ensures none { IfNone result (Spec.skip_white_space false bytes.now ≡ None) }
+fn skip_white_space(bytes: &[u8]) -> Option<&[u8]> {
     let mut in_comment = false;
     for (i, byte) in bytes.iter().enumerate() {
         if in_comment {
             in_comment = !is_line_end(*byte);
-        } else if begins_piece(*byte) {
+        } else if starts_white_space(*byte) {
             in_comment = *byte == b'#';
         } else {
             return Some(&bytes[i..]);
@@ -84,13 +84,14 @@ fn after_pieces(bytes: &[u8]) -> Option<&[u8]> {
 // ensures some { IfSome result (λ rest. Spec.after_gap bytes.now ≡ Some rest.now) }
 // ensures none { IfNone result (Spec.after_gap bytes.now ≡ None) }
 fn after_gap(bytes: &[u8]) -> Option<&[u8]> {
-    if bytes.is_empty() || !begins_piece(bytes[0]) {
+    if bytes.is_empty() || !starts_white_space(bytes[0]) {
         return None;
     }
-    after_pieces(bytes)
+    skip_white_space(bytes)
 }
 
-/// The number that the digits ahead spell, or `OVER` where it is larger, and what stands after it.
+/// The number that the digits ahead spell, or `ABOVE_LIMITS` where it is larger, and what stands
+/// after it.
 // ensures number { IfSome result (λ found. found.0 ≡ Spec.capped_from 0 bytes.now) }
 // ensures after { IfSome result (λ found. found.1.now ≡ Spec.after_digits bytes.now) }
 // ensures some { IfSome result (λ _. Spec.has_digit bytes.now ≡ true) }
@@ -104,7 +105,7 @@ fn number(bytes: &[u8]) -> Option<(u32, &[u8])> {
         if !is_digit(*byte) {
             return Some((number, &bytes[i..]));
         }
-        number = (10 * number + u32::from(*byte - b'0')).min(OVER);
+        number = (10 * number + u32::from(*byte - b'0')).min(ABOVE_LIMITS);
     }
     Some((number, &bytes[bytes.len()..]))
 }
@@ -202,9 +203,9 @@ fn read_image(bytes: &[u8]) -> Result<(PbmImage<'_>, &[u8]), PbmFault> {
     Ok((image, &head.after[len..]))
 }
 
-/// Reads image after image. Contracts see the bytes that are left, and the fault that was answered.
+/// Reads image after image. Contracts see the remaining bytes, and the fault that was returned.
 pub struct PbmReader<'a> {
-    left: &'a [u8],
+    remaining: &'a [u8],
     fault: Option<PbmFault>,
 }
 
@@ -212,43 +213,43 @@ impl<'a> Model for PbmReader<'a> {}
 
 impl<'a> PbmReader<'a> {
     /// A reader of the images in these bytes.
-    // ensures { result ≡ record { left = bytes.now; fault = None } }
+    // ensures { result ≡ record { remaining = bytes.now; fault = None } }
     pub fn new(bytes: &'a [u8]) -> Self {
         PbmReader {
-            left: bytes,
+            remaining: bytes,
             fault: None,
         }
     }
 
     /// The bytes that are left.
-    // ensures { result.now ≡ self.now.left }
-    pub fn left(&self) -> &'a [u8] {
-        self.left
+    // ensures { result.now ≡ self.now.remaining }
+    pub fn remaining(&self) -> &'a [u8] {
+        self.remaining
     }
 
-    /// The image at the start of the bytes that are left, which then begin after it, or none where
-    /// no bytes are left.
+    /// The image at the start of the remaining bytes, which then begin after it, or none where no
+    /// bytes are left.
     ///
     /// # Errors
     ///
-    /// The image's fault, which is answered again from then on.
+    /// The image's fault, which is returned again from then on.
     // ensures image { IfOk result (λ found. IfSome found (λ image. IsImageRead self.old
     //     (image_of image.width image.rows image.raster.now) self.new)) }
     // The raster is that part of the input.
-    // ensures raster { IfOk result (λ found. IfSome found (λ image. Pbm.IsHead self.old.left
-    //     image.width image.rows (image.raster.now ++ self.new.left))) }
+    // ensures raster { IfOk result (λ found. IfSome found (λ image. Pbm.IsHead self.old.remaining
+    //     image.width image.rows (image.raster.now ++ self.new.remaining))) }
     // ensures end { IfOk result (λ found. IfNone found (HasNoImageLeft self.old self.new)) }
     // ensures fault { IfErr result (IsFaultAnswered self.old self.new) }
     pub fn next_image(&mut self) -> Result<Option<PbmImage<'a>>, PbmFault> {
         if let Some(fault) = self.fault {
             return Err(fault);
         }
-        if self.left.is_empty() {
+        if self.remaining.is_empty() {
             return Ok(None);
         }
-        match read_image(self.left) {
+        match read_image(self.remaining) {
             Ok((image, after)) => {
-                self.left = after;
+                self.remaining = after;
                 Ok(Some(image))
             }
             Err(fault) => {

@@ -53,7 +53,7 @@ impl<'a> Tiff<'a> {
 
     /// The same file once more.
     // ensures { result ≡ self.now }
-    pub(crate) fn again(&self) -> Self {
+    pub(crate) fn fork(&self) -> Self {
         Tiff {
             file: self.file,
             first: self.first,

@@ -6,7 +6,8 @@ use kit_std::prelude::Vec;
 use crate::PageForm;
 use crate::totals::put_totals;
 use crate::written::{
-    MAX_FILE, StripsAt, TO_LINK, append, laid_out, page_end, page_tail, set_link, strips_end,
+    MAX_FILE, StripsAt, TO_NEXT_OFFSET, append, page_end, page_layout, page_tail, set_link,
+    strips_end,
 };
 use fax_bits::Memory;
 use kit_std::alloc::Global;
@@ -68,7 +69,7 @@ pub fn write_page(
     if page_end(end + end % 2, form.strips) > u64::from(MAX_FILE) {
         return Err(WriteFault::OutputTooLarge);
     }
-    let at = laid_out(form.strips, start, end, number, total);
+    let at = page_layout(form.strips, start, end, number, total);
     let placed = StripsAt { strips, start, end };
     let Ok(tail) = page_tail(alloc, form, placed, &at) else {
         return Err(WriteFault::Memory);
@@ -80,7 +81,7 @@ pub fn write_page(
     Ok(PageBytes {
         bytes,
         directory: at.directory,
-        link: at.directory + TO_LINK,
+        link: at.directory + TO_NEXT_OFFSET,
     })
 }
 
@@ -144,7 +145,7 @@ impl TiffWriter {
         if page_end > u64::from(MAX_FILE) {
             return Err(WriteFault::OutputTooLarge);
         }
-        let at = laid_out(form.strips, start, end, self.added, self.total);
+        let at = page_layout(form.strips, start, end, self.added, self.total);
         let placed = StripsAt { strips, start, end };
         let Ok(tail) = page_tail(self.alloc, form, placed, &at) else {
             return Err(WriteFault::Memory);
@@ -161,7 +162,7 @@ impl TiffWriter {
             return Err(WriteFault::Memory);
         }
         set_link(&mut self.bytes, self.link as usize, at.directory);
-        self.link = at.directory + TO_LINK;
+        self.link = at.directory + TO_NEXT_OFFSET;
         self.added += 1;
         Ok(())
     }
@@ -173,7 +174,7 @@ impl TiffWriter {
     }
 
     /// The bytes of the file of the pages that were added, each of which says how many these are,
-    /// whatever number of pages the file was begun for. Where none was added it is the header
+    /// whatever number of pages the file was started for. Where none was added it is the header
     /// alone, which is no TIFF file.
     // ensures file { (pages : List WrittenPage) → HasAdded self.total pages self
     //     → result.items ≡ file_of pages }

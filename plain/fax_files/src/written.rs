@@ -17,17 +17,17 @@ pub const MAX_FILE: u32 = 268_435_456;
 const FIELDS: usize = 16;
 /// How far after a directory's place its next offset stands: after the number of its fields, and
 /// twelve bytes of each.
-pub(crate) const TO_LINK: u32 = 2 + 12 * FIELDS as u32;
+pub(crate) const TO_NEXT_OFFSET: u32 = 2 + 12 * FIELDS as u32;
 /// How far after it the fraction of XResolution stands.
-const TO_X: u32 = TO_LINK + 4;
+const TO_X_RESOLUTION: u32 = TO_NEXT_OFFSET + 4;
 /// How far after it the fraction of YResolution stands.
-const TO_Y: u32 = TO_X + 8;
+const TO_Y_RESOLUTION: u32 = TO_X_RESOLUTION + 8;
 /// How far after it the strips' offsets stand, where there are more than one.
-const TO_OFFSETS: u32 = TO_Y + 8;
+const TO_STRIP_OFFSETS: u32 = TO_Y_RESOLUTION + 8;
 
 /// The four bytes of a number.
 // ensures { result ≡ Spec.four n }
-pub(crate) fn four_bytes(n: u32) -> [u8; 4] {
+pub(crate) fn u32_bytes(n: u32) -> [u8; 4] {
     let mut bytes = [0; 4];
     LittleEndian::write_u32(&mut bytes, n);
     bytes
@@ -35,7 +35,7 @@ pub(crate) fn four_bytes(n: u32) -> [u8; 4] {
 
 /// The two bytes of one number, and then those of another.
 // ensures { result ≡ Spec.two first ++ Spec.two second }
-fn two_and_two(first: u16, second: u16) -> [u8; 4] {
+fn u16_pair_bytes(first: u16, second: u16) -> [u8; 4] {
     let mut bytes = [0; 4];
     LittleEndian::write_u16(&mut bytes, first);
     LittleEndian::write_u16(&mut bytes[2..], second);
@@ -44,7 +44,7 @@ fn two_and_two(first: u16, second: u16) -> [u8; 4] {
 
 /// Appends a number of two bytes.
 // ensures { OnOk result (out.new.items ≡ out.old.items ++ Spec.two n) }
-fn put_two(out: &mut Vec<u8>, n: u16) -> Result<(), AllocError> {
+fn push_u16(out: &mut Vec<u8>, n: u16) -> Result<(), AllocError> {
     let mut bytes = [0; 2];
     LittleEndian::write_u16(&mut bytes, n);
     out.extend_from_slice(&bytes)
@@ -52,8 +52,8 @@ fn put_two(out: &mut Vec<u8>, n: u16) -> Result<(), AllocError> {
 
 /// Appends a number of four bytes.
 // ensures { OnOk result (out.new.items ≡ out.old.items ++ Spec.four n) }
-fn put_four(out: &mut Vec<u8>, n: u32) -> Result<(), AllocError> {
-    out.extend_from_slice(&four_bytes(n))
+fn push_u32(out: &mut Vec<u8>, n: u32) -> Result<(), AllocError> {
+    out.extend_from_slice(&u32_bytes(n))
 }
 
 /// A field as it is written.
@@ -67,35 +67,35 @@ struct Field {
 impl Model for Field {}
 
 /// A field of one SHORT.
-// ensures { result ≡ Parts.short_field tag n }
+// ensures { result ≡ SparseBytes.short_field tag n }
 fn short_field(tag: u16, n: u16) -> Field {
     Field {
         tag,
         kind: tags::SHORT,
         count: 1,
-        value: two_and_two(n, 0),
+        value: u16_pair_bytes(n, 0),
     }
 }
 
 /// A field of LONGs: the one that there is, or the place of the first.
-// ensures { result ≡ Parts.long_field tag count n }
+// ensures { result ≡ SparseBytes.long_field tag count n }
 fn long_field(tag: u16, count: u32, n: u32) -> Field {
     Field {
         tag,
         kind: tags::LONG,
         count,
-        value: four_bytes(n),
+        value: u32_bytes(n),
     }
 }
 
 /// A field of one fraction, which stands at a place.
-// ensures { result ≡ Parts.rational_field tag place }
-fn rational_field(tag: u16, place: u32) -> Field {
+// ensures { result ≡ SparseBytes.rational_field tag offset }
+fn rational_field(tag: u16, offset: u32) -> Field {
     Field {
         tag,
         kind: tags::RATIONAL,
         count: 1,
-        value: four_bytes(place),
+        value: u32_bytes(offset),
     }
 }
 
@@ -147,17 +147,17 @@ pub(crate) struct Layout {
 /// Appends the entry of a field.
 // ensures { OnOk result (out.new.items ≡ out.old.items ++ Spec.field_bytes field.now) }
 fn put_field(out: &mut Vec<u8>, field: &Field) -> Result<(), AllocError> {
-    put_two(out, field.tag)?;
-    put_two(out, field.kind)?;
-    put_four(out, field.count)?;
+    push_u16(out, field.tag)?;
+    push_u16(out, field.kind)?;
+    push_u32(out, field.count)?;
     out.extend_from_slice(&field.value)
 }
 
 /// Appends a fraction.
-// ensures { OnOk result (out.new.items ≡ out.old.items ++ Parts.rational_bytes value) }
+// ensures { OnOk result (out.new.items ≡ out.old.items ++ SparseBytes.rational_bytes value) }
 fn put_rational(out: &mut Vec<u8>, value: (u32, u32)) -> Result<(), AllocError> {
-    put_four(out, value.0)?;
-    put_four(out, value.1)
+    push_u32(out, value.0)?;
+    push_u32(out, value.1)
 }
 
 /// The fields of a page.
@@ -178,58 +178,58 @@ fn page_fields(form: &PageForm, at: &Layout) -> [Field; FIELDS] {
         short_field(tags::SAMPLES_PER_PIXEL, 1),
         long_field(tags::ROWS_PER_STRIP, 1, form.rows_per_strip),
         long_field(tags::STRIP_BYTE_COUNTS, at.strips, at.byte_counts),
-        rational_field(tags::X_RESOLUTION, at.directory + TO_X),
-        rational_field(tags::Y_RESOLUTION, at.directory + TO_Y),
+        rational_field(tags::X_RESOLUTION, at.directory + TO_X_RESOLUTION),
+        rational_field(tags::Y_RESOLUTION, at.directory + TO_Y_RESOLUTION),
         options_field(form.coding, form.aligned),
         short_field(tags::RESOLUTION_UNIT, form.unit),
         Field {
             tag: tags::PAGE_NUMBER,
             kind: tags::SHORT,
             count: 2,
-            value: two_and_two(at.number, at.total),
+            value: u16_pair_bytes(at.number, at.total),
         },
     ]
 }
 
 /// Appends a directory of these fields, with the next offset 0.
 // requires { length fields.now < 65536 }
-// ensures { OnOk result (out.new.items ≡ out.old.items ++ Parts.fields_bytes fields.now
+// ensures { OnOk result (out.new.items ≡ out.old.items ++ SparseBytes.fields_bytes fields.now
 //     ++ Spec.four 0) }
 fn put_directory(out: &mut Vec<u8>, fields: &[Field]) -> Result<(), AllocError> {
-    put_two(out, fields.len() as u16)?;
+    push_u16(out, fields.len() as u16)?;
     for field in fields {
         put_field(out, field)?;
     }
-    put_four(out, 0)
+    push_u32(out, 0)
 }
 
 /// Appends the offsets of strips that begin at a place.
-// requires { start + length (Parts.joined_strips (contents strips.now)) < 4294967296 }
+// requires { start + length (SparseBytes.joined_strips (contents strips.now)) < 4294967296 }
 // ensures { OnOk result (out.new.items
-//     ≡ out.old.items ++ Parts.longs (Spec.offsets_from start (contents strips.now))) }
+//     ≡ out.old.items ++ SparseBytes.longs (Spec.offsets_from start (contents strips.now))) }
 fn put_offsets(out: &mut Vec<u8>, start: u32, strips: &[Vec<u8>]) -> Result<(), AllocError> {
-    let mut place = start;
+    let mut offset = start;
     for strip in strips {
-        put_four(out, place)?;
-        place += strip.len() as u32;
+        push_u32(out, offset)?;
+        offset += strip.len() as u32;
     }
     Ok(())
 }
 
 /// Appends the byte counts of strips.
-// requires { length (Parts.joined_strips (contents strips.now)) < 4294967296 }
+// requires { length (SparseBytes.joined_strips (contents strips.now)) < 4294967296 }
 // ensures { OnOk result (out.new.items
-//     ≡ out.old.items ++ Parts.longs (Parts.lengths_of (contents strips.now))) }
+//     ≡ out.old.items ++ SparseBytes.longs (SparseBytes.lengths_of (contents strips.now))) }
 fn put_byte_counts(out: &mut Vec<u8>, strips: &[Vec<u8>]) -> Result<(), AllocError> {
     for strip in strips {
-        put_four(out, strip.len() as u32)?;
+        push_u32(out, strip.len() as u32)?;
     }
     Ok(())
 }
 
 /// Appends the bytes of strips. Where a growth is refused, what stood there stays in front.
 // ensures ok { OnOk result (out.new.items
-//     ≡ out.old.items ++ Parts.joined_strips (contents strips.now)) }
+//     ≡ out.old.items ++ SparseBytes.joined_strips (contents strips.now)) }
 // ensures err { OnErr result (take (length out.old.items) out.new.items ≡ out.old.items) }
 fn put_strips(out: &mut Vec<u8>, strips: &[Vec<u8>]) -> Result<(), AllocError> {
     for strip in strips {
@@ -249,7 +249,7 @@ pub(crate) struct StripsAt<'a> {
 /// The bytes of a page that stand after its strips: a zero byte to an even place, the directory,
 /// and the values that do not fit it.
 // requires end { placed.end
-//     ≡ placed.start + length (Parts.joined_strips (contents placed.strips.now)) }
+//     ≡ placed.start + length (SparseBytes.joined_strips (contents placed.strips.now)) }
 // requires limit { at.now.directory ≤ max_file }
 // requires strips { at.now.strips ≡ length placed.strips.now }
 // ensures { IfOk result (λ tail. tail.items
@@ -284,19 +284,19 @@ pub(crate) fn page_end(directory: u32, strips: u32) -> u64 {
     } else {
         8 * u64::from(strips)
     };
-    u64::from(directory) + u64::from(TO_OFFSETS) + arrays
+    u64::from(directory) + u64::from(TO_STRIP_OFFSETS) + arrays
 }
 
 /// How a page is laid out whose strips begin at `start` and end at `end`.
 // requires order { start ≤ end }
 // requires limit { end_of_page (end + end % 2) strips ≤ max_file }
 // ensures { IsLayout result strips start end number total }
-pub(crate) fn laid_out(strips: u32, start: u32, end: u32, number: u16, total: u16) -> Layout {
+pub(crate) fn page_layout(strips: u32, start: u32, end: u32, number: u16, total: u16) -> Layout {
     let directory = end + end % 2;
     let (offsets, byte_counts) = if strips == 1 {
         (start, end - start)
     } else {
-        let offsets = directory + TO_OFFSETS;
+        let offsets = directory + TO_STRIP_OFFSETS;
         (offsets, offsets + 4 * strips)
     };
     Layout {
@@ -312,7 +312,7 @@ pub(crate) fn laid_out(strips: u32, start: u32, end: u32, number: u16, total: u1
 /// Appends strips and what stands after them, for which memory is reserved at once. Where it is
 /// refused, what stood there stays in front.
 // ensures ok { OnOk result (bytes.new.items
-//     ≡ bytes.old.items ++ (Parts.joined_strips (contents strips.now) ++ tail.now)) }
+//     ≡ bytes.old.items ++ (SparseBytes.joined_strips (contents strips.now) ++ tail.now)) }
 // ensures err { OnErr result (take (length bytes.old.items) bytes.new.items ≡ bytes.old.items) }
 pub(crate) fn append(bytes: &mut Vec<u8>, strips: &[Vec<u8>], tail: &[u8]) -> Result<(), AllocError> {
     put_strips(bytes, strips)?;
@@ -320,19 +320,19 @@ pub(crate) fn append(bytes: &mut Vec<u8>, strips: &[Vec<u8>], tail: &[u8]) -> Re
 }
 
 /// Sets the four bytes at a place.
-// requires { place + 4 ≤ length bytes.old }
-// ensures { bytes.new ≡ Parts.with_four_at bytes.old place n }
-fn set_four(bytes: &mut [u8], place: usize, n: u32) {
-    bytes[place..place + 4].copy_from_slice(&four_bytes(n));
+// requires { offset + 4 ≤ length bytes.old }
+// ensures { bytes.new ≡ SparseBytes.with_four_at bytes.old offset n }
+fn set_u32(bytes: &mut [u8], offset: usize, n: u32) {
+    bytes[offset..offset + 4].copy_from_slice(&u32_bytes(n));
 }
 
 /// The place after strips that begin at a place, if it is within the limit of a file.
 // requires { start ≤ max_file }
 // ensures found { IfSome result (λ end. end
-//     ≡ start + length (Parts.joined_strips (contents strips.now))) }
+//     ≡ start + length (SparseBytes.joined_strips (contents strips.now))) }
 // ensures limit { IfSome result (λ end. end ≤ max_file) }
 // ensures none { IfNone result (max_file
-//     < start + length (Parts.joined_strips (contents strips.now))) }
+//     < start + length (SparseBytes.joined_strips (contents strips.now))) }
 pub(crate) fn strips_end(start: u32, strips: &[Vec<u8>]) -> Option<u32> {
     let mut end = start;
     for strip in strips {
@@ -345,8 +345,8 @@ pub(crate) fn strips_end(start: u32, strips: &[Vec<u8>]) -> Option<u32> {
 }
 
 /// Sets the four bytes at a place of a file.
-// requires { place + 4 ≤ length bytes.old.items }
-// ensures { bytes.new.items ≡ Parts.with_four_at bytes.old.items place n }
-pub(crate) fn set_link(bytes: &mut Vec<u8>, place: usize, n: u32) {
-    set_four(bytes, place, n);
+// requires { offset + 4 ≤ length bytes.old.items }
+// ensures { bytes.new.items ≡ SparseBytes.with_four_at bytes.old.items offset n }
+pub(crate) fn set_link(bytes: &mut Vec<u8>, offset: usize, n: u32) {
+    set_u32(bytes, offset, n);
 }

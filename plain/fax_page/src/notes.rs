@@ -2,10 +2,10 @@
 //! What is worth a note in a strip that has all its rows.
 
 use crate::lines::{read_codes, read_eol, read_start, stop, take_white};
-use crate::uncounted::end_of_rows;
+use crate::uncounted::classify_end;
 use crate::writer::put_codes;
 use crate::{Coding, Dimension, FillOrder, MOST_ROWS, RowsEnd, StripFault, StripForm};
-use fax_rows::{BitSink, BitSource, Memory, Row, RowFault, read_1d_choice, read_2d_choice};
+use fax_rows::{BitSink, BitSource, Memory, Row, RowFault, read_1d_canonical, read_2d_canonical};
 use kit_std::alloc::Global;
 use kit_std::marker::Model;
 use kit_std::mem::swap;
@@ -37,7 +37,7 @@ pub struct StripNotes {
     pub not_t4_choice: bool,
 }
 
-/// What was found in rows that nobody counted.
+/// What was found in rows of a strip of unknown height.
 #[derive(Clone, Copy, Debug, PartialEq, Eq)]
 pub struct UncountedNotes {
     /// How many rows there are, at most 1,000,000.
@@ -66,12 +66,12 @@ impl From<Memory> for NotesFault {
 }
 
 /// Reads the codes of a row that is coded so into `row`, of which nothing is said after a fault,
-/// and answers whether they are seen to be those that T.4 chooses.
+/// and returns whether they are seen to be those that T.4 chooses.
 // requires same_width { length reference.now ≡ length row.old }
-// ensures read { read_codes_of dimension (length row.old) reference.now source.old.left
-//     ≡ answered (λ _. row.new) result source.new.left }
+// ensures read { read_codes_of dimension (length row.old) reference.now source.old.remaining
+//     ≡ answered (λ _. row.new) result source.new.remaining }
 // ensures chosen { IfOk result (λ chosen. IsTrue chosen
-//     → Code.IsChosen dimension reference.now source.old.left row.new source.new.left) }
+//     → Code.IsChosen dimension reference.now source.old.remaining row.new source.new.remaining) }
 // ensures same_width { length row.new ≡ length row.old }
 fn read_seen(
     source: &mut BitSource,
@@ -80,16 +80,16 @@ fn read_seen(
     row: &mut Row,
 ) -> Result<bool, RowFault> {
     match dimension {
-        Dimension::OneDimensional => read_1d_choice(source, row),
-        Dimension::TwoDimensional => read_2d_choice(source, reference, row),
+        Dimension::OneDimensional => read_1d_canonical(source, row),
+        Dimension::TwoDimensional => read_2d_canonical(source, reference, row),
     }
 }
 
 /// What is kept from strip to strip.
 struct NotedRows {
-    /// The row before the one that is due, white before the first one of a strip.
+    /// The row before the next one, white before the first one of a strip.
     reference: Row,
-    /// Where the row that is due is read to.
+    /// Where the next row is read to.
     row: Row,
     /// Where a row is written that is to be compared.
     sink: BitSink,
@@ -104,18 +104,18 @@ struct NotedStrip<'a> {
 }
 
 impl<'a> NotedStrip<'a> {
-    /// Reads the codes of row `i`, which are due, into `row`, of which nothing is said after a
-    /// fault, and answers whether they are those that T.4 chooses. Only where that is not seen
+    /// Reads the codes of row `i`, which are expected, into `row`, of which nothing is said after a
+    /// fault, and returns whether they are those that T.4 chooses. Only where that is not seen
     /// while they are read, the row is written and compared.
     // requires { Code.IsNoting self.old rows.old }
     // ensures ok { IfOk result (Code.AreCodesRead self.old.form dimension rows.old.reference
-    //     self.old.source.left rows.new.row self.new.source.left) }
+    //     self.old.source.remaining rows.new.row self.new.source.remaining) }
     // ensures err { IfErr result (Code.IsCodesFault self.old.form i dimension
-    //     rows.old.reference self.old.source.left) }
+    //     rows.old.reference self.old.source.remaining) }
     // ensures same_width { length rows.new.row ≡ length rows.old.row }
     // ensures same_reference { rows.new.reference ≡ rows.old.reference }
     // ensures same_form { self.new.form ≡ self.old.form }
-    fn read_choice(
+    fn read_canonical(
         &mut self,
         rows: &mut NotedRows,
         dimension: Dimension,
@@ -124,7 +124,7 @@ impl<'a> NotedStrip<'a> {
         // The readers answer whether each step was T.4's choice; at any doubt the row is written
         // again, in a sink that is emptied for each row, and compared. That a row begins so is that
         // it is coded so, since what is written is read as nothing else (a law of `fax_rows`).
-        let codes = self.source.again();
+        let codes = self.source.fork();
         match read_seen(&mut self.source, dimension, &rows.reference, &mut rows.row) {
             Ok(true) => return Ok(true),
             Ok(false) => {}
@@ -135,28 +135,28 @@ impl<'a> NotedStrip<'a> {
         }
         rows.sink.clear();
         put_codes(&mut rows.sink, dimension, &rows.reference, &rows.row)?;
-        Ok(rows.sink.begins(&codes))
+        Ok(rows.sink.starts_with(&codes))
     }
 
-    /// Reads the codes of row `i`, which are due, into `row`, of which nothing is said after a
+    /// Reads the codes of row `i`, which are expected, into `row`, of which nothing is said after a
     /// fault, and asks nothing of them.
     // requires { Code.IsNoting self.old rows.old }
     // ensures ok { OnOk result
-    //     (read_codes_of dimension self.old.form.width rows.old.reference self.old.source.left
-    //     ≡ read rows.new.row self.new.source.left) }
+    //     (read_codes_of dimension self.old.form.width rows.old.reference self.old.source.remaining
+    //     ≡ read rows.new.row self.new.source.remaining) }
     // ensures err { IfErr result (Code.IsCodesFault self.old.form i dimension
-    //     rows.old.reference self.old.source.left) }
+    //     rows.old.reference self.old.source.remaining) }
     // ensures same_width { length rows.new.row ≡ length rows.old.row }
     // ensures same_reference { rows.new.reference ≡ rows.old.reference }
     // ensures same_form { self.new.form ≡ self.old.form }
     // ensures same_choice { self.new.not_t4_choice ≡ self.old.not_t4_choice }
-    fn read_unasked(
+    fn read_plain(
         &mut self,
         rows: &mut NotedRows,
         dimension: Dimension,
         i: u32,
     ) -> Result<(), NotesFault> {
-        let codes = self.source.again();
+        let codes = self.source.fork();
         match read_codes(&mut self.source, dimension, &rows.reference, &mut rows.row) {
             Ok(()) => Ok(()),
             Err(cause) => {
@@ -166,14 +166,14 @@ impl<'a> NotedStrip<'a> {
         }
     }
 
-    /// Reads the codes of row `i`, which are due. Once the codes of a row are others than T.4
+    /// Reads the codes of row `i`, which are expected. Once the codes of a row are others than T.4
     /// chooses, rows are only read.
     // requires { Code.IsNoting self.old rows.old }
     // ensures ok { OnOk result (Code.AreCodesNoted self.old.form dimension rows.old.reference
-    //     self.old.source.left rows.new.reference self.new.source.left
+    //     self.old.source.remaining rows.new.reference self.new.source.remaining
     //     self.old.not_t4_choice self.new.not_t4_choice) }
     // ensures err { IfErr result (Code.IsCodesFault self.old.form i dimension
-    //     rows.old.reference self.old.source.left) }
+    //     rows.old.reference self.old.source.remaining) }
     // ensures still { Code.IsNoting self.new rows.new }
     // ensures same_form { self.new.form ≡ self.old.form }
     fn note_codes(
@@ -183,21 +183,21 @@ impl<'a> NotedStrip<'a> {
         i: u32,
     ) -> Result<(), NotesFault> {
         if self.not_t4_choice {
-            self.read_unasked(rows, dimension, i)?;
+            self.read_plain(rows, dimension, i)?;
         } else {
-            self.not_t4_choice = !self.read_choice(rows, dimension, i)?;
+            self.not_t4_choice = !self.read_canonical(rows, dimension, i)?;
         }
         swap(&mut rows.reference, &mut rows.row);
         Ok(())
     }
 
-    /// Reads row `i`, the one that is due. A white row after a white one is gone past.
+    /// Reads row `i`, the next one. A white row after a white one is skipped.
     // requires { Code.IsNoting self.old rows.old }
     // ensures ok { OnOk result (Code.IsLineNoted self.old.form i rows.old.reference
-    //     self.old.source.left rows.new.reference self.new.source.left
+    //     self.old.source.remaining rows.new.reference self.new.source.remaining
     //     self.old.not_t4_choice self.new.not_t4_choice) }
     // ensures err { IfErr result
-    //     (Code.IsLineFault self.old.form i rows.old.reference self.old.source.left) }
+    //     (Code.IsLineFault self.old.form i rows.old.reference self.old.source.remaining) }
     // ensures still { Code.IsNoting self.new rows.new }
     // ensures same_form { self.new.form ≡ self.old.form }
     fn read_row(&mut self, rows: &mut NotedRows, i: u32) -> Result<(), NotesFault> {
@@ -212,10 +212,10 @@ impl<'a> NotedStrip<'a> {
     }
 }
 
-/// Goes after an EOL of a return to control, and answers whether there is one (T.4, sections 4.1.4
+/// Goes after an EOL of a return to control, and returns whether there is one (T.4, sections 4.1.4
 /// and 4.2.4).
-// ensures { Code.TakesReturnEol coding source.old.left result source.new.left }
-fn take_return_eol(source: &mut BitSource, coding: Coding) -> bool {
+// ensures { Code.TakesReturnEol coding source.old.remaining result source.new.remaining }
+fn skip_return_eol(source: &mut BitSource, coding: Coding) -> bool {
     if let Err(_none) = read_eol(source, false) {
         return false;
     }
@@ -227,11 +227,11 @@ fn take_return_eol(source: &mut BitSource, coding: Coding) -> bool {
 }
 
 /// What stands after a return to control, where there is one (T.4, section 4.1.4).
-// ensures { Code.IsAfterMark (Spec.AreReturnEols coding 6 source.now.left) result }
+// ensures { Code.IsAfterMark (Spec.AreRtcEols coding 6 source.now.remaining) result }
 fn after_return_to_control<'a>(source: &BitSource<'a>, coding: Coding) -> Option<BitSource<'a>> {
-    let mut ahead = source.again();
+    let mut ahead = source.fork();
     for _eol in 0..RETURN_EOLS {
-        if !take_return_eol(&mut ahead, coding) {
+        if !skip_return_eol(&mut ahead, coding) {
             return None;
         }
     }
@@ -240,14 +240,14 @@ fn after_return_to_control<'a>(source: &BitSource<'a>, coding: Coding) -> Option
 
 /// What stands after the end mark of a strip, where there is one (T.4, section 4.1.4; T.6,
 /// End-of-facsimile block).
-// ensures { Code.IsAfterMark (Spec.IsEndMark coding source.now.left) result }
+// ensures { Code.IsAfterMark (Spec.IsEndMark coding source.now.remaining) result }
 pub(crate) fn after_end<'a>(source: &BitSource<'a>, coding: Coding) -> Option<BitSource<'a>> {
     // The end of a facsimile block has no fill: with a zero before it a strip of MMR has none, and
     // data.
     match coding {
         Coding::Mh | Coding::Mr => after_return_to_control(source, coding),
         Coding::Mmr => {
-            let mut ahead = source.again();
+            let mut ahead = source.fork();
             if ahead.take(END_OF_BLOCK, END_OF_BLOCK_BITS) {
                 Some(ahead)
             } else {
@@ -258,7 +258,7 @@ pub(crate) fn after_end<'a>(source: &BitSource<'a>, coding: Coding) -> Option<Bi
 }
 
 /// The notes on a strip whose rows end at a source.
-// ensures { Code.AreNotesAfter coding source.now.left not_t4_choice result }
+// ensures { Code.AreNotesAfter coding source.now.remaining not_t4_choice result }
 fn notes_after(source: &BitSource, coding: Coding, not_t4_choice: bool) -> StripNotes {
     // A lone EOL after the last row is data after the end: no return to control stands there. Six
     // EOLs after a strip of MMR are the end of its block, two EOLs, and then data.
@@ -278,11 +278,11 @@ fn notes_after(source: &BitSource, coding: Coding, not_t4_choice: bool) -> Strip
     }
 }
 
-/// What was found in so many rows whose data go on at a source, where this fault is in the way of
-/// the next row, or none is.
-// ensures { Code.AreFoundAfter coding due.now.left rows fault not_t4_choice result }
+/// What was found in so many rows whose data continue at a source, where this fault is in the way
+/// of the next row, or none is.
+// ensures { Code.AreFoundAfter coding upcoming.now.remaining rows fault not_t4_choice result }
 fn found_in_rows(
-    due: &BitSource,
+    upcoming: &BitSource,
     coding: Coding,
     rows: u32,
     fault: Option<StripFault>,
@@ -290,8 +290,8 @@ fn found_in_rows(
 ) -> UncountedNotes {
     UncountedNotes {
         rows,
-        end: end_of_rows(due, coding, rows, fault),
-        notes: notes_after(due, coding, not_t4_choice),
+        end: classify_end(upcoming, coding, rows, fault),
+        notes: notes_after(upcoming, coding, not_t4_choice),
     }
 }
 
@@ -352,9 +352,9 @@ impl NotesReader {
         Ok(notes_after(&strip.source, form.coding, strip.not_t4_choice))
     }
 
-    /// How many rows that nobody counted stand in at most 4,294,967,295 bytes, how they end, and
-    /// the notes on them. How many rows the form says is not looked at. It takes memory only where
-    /// a row is written, at most for that row.
+    /// How many rows of a strip of unknown height stand in at most 4,294,967,295 bytes, how they
+    /// end, and the notes on them. How many rows the form says is not looked at. It takes memory
+    /// only where a row is written, at most for that row.
     ///
     /// # Errors
     ///
@@ -380,12 +380,12 @@ impl NotesReader {
             not_t4_choice: false,
         };
         for i in 0..MOST_ROWS {
-            let due = strip.source.again();
+            let upcoming = strip.source.fork();
             let other = strip.not_t4_choice;
             match strip.read_row(&mut self.rows, i) {
                 Ok(()) => {}
                 Err(NotesFault::Strip { row: _, fault }) => {
-                    return Ok(found_in_rows(&due, form.coding, i, Some(fault), other));
+                    return Ok(found_in_rows(&upcoming, form.coding, i, Some(fault), other));
                 }
                 Err(NotesFault::Memory) => return Err(Memory),
             }

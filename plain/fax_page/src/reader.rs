@@ -2,30 +2,30 @@
 //! A reader of strips.
 
 use crate::lines::{begins_below_eleven, line_fault, next_eol, read_start};
-use crate::rows_in_turn::{RowsInTurn, is_row};
-use crate::uncounted::end_of_rows;
-use crate::{Coding, Dimension, PlaceFault, RowBefore, RowsEnd, StripFault, StripForm};
+use crate::row_buffers::{RowBuffers, is_row};
+use crate::uncounted::classify_end;
+use crate::{Coding, Dimension, PlaceFault, ReferenceRow, RowsEnd, StripFault, StripForm};
 use fax_rows::{BitSource, Memory, Row};
 use kit_std::alloc::Global;
 use kit_std::marker::Model;
 
 /// Reads strips row by row, one strip after another. Contracts see how far a strip is read: its
-/// form, its bytes, the place in bits and the number of the row that is due, how many rows the
-/// reader answered, the row before the one that is due, and the fault that was answered.
-// The place of the row that is due stands apart from the source: after a fault the source stands
-// anywhere, and the reader is as it was but for the fault.
+/// form, its bytes, the place in bits and the number of the next row, how many rows the reader
+/// answered, the row before the next one, and the fault that was returned.
+// The place of the next row stands apart from the source: after a fault the source stands anywhere,
+// and the reader is as it was but for the fault.
 pub struct StripReader<'a> {
     bytes: &'a [u8],
-    /// Where the row that is due begins; after a fault, anywhere.
+    /// Where the next row begins; after a fault, anywhere.
     source: BitSource<'a>,
     form: StripForm,
     place: u64,
     row: u32,
-    /// How many rows were read before the strip was begun, and at which of its rows that was.
+    /// How many rows were read before the strip was started, and at which of its rows that was.
     read_before: u64,
-    begun: u32,
-    /// The row before the one that is due, and the one that it is read to.
-    rows: RowsInTurn,
+    origin: u32,
+    /// The row before the next one, and the one that it is read to.
+    rows: RowBuffers,
     fault: Option<StripFault>,
 }
 
@@ -42,7 +42,7 @@ impl<'a> StripReader<'a> {
     // requires limits { IsStripForm form }
     // ensures { IfOk result (λ reader. reader ≡ strip_beginning form bytes.now) }
     pub fn new(alloc: Global, bytes: &'a [u8], form: StripForm) -> Result<Self, Memory> {
-        let rows = RowsInTurn::new(alloc, form.width)?;
+        let rows = RowBuffers::new(alloc, form.width)?;
         Ok(StripReader {
             bytes,
             source: BitSource::new(bytes, form.order),
@@ -50,7 +50,7 @@ impl<'a> StripReader<'a> {
             place: 0,
             row: 0,
             read_before: 0,
-            begun: 0,
+            origin: 0,
             rows,
             fault: None,
         })
@@ -65,7 +65,7 @@ impl<'a> StripReader<'a> {
     /// before. `Memory` where a growth was refused.
     // requires count { length bytes.now ≤ 4294967295 }
     // requires limits { IsStripForm form }
-    // requires due { row < form.rows }
+    // requires upcoming { row < form.rows }
     // ensures { IsBegunInside form bytes.now row bits before.entry result }
     pub fn inside(
         alloc: Global,
@@ -73,15 +73,15 @@ impl<'a> StripReader<'a> {
         form: StripForm,
         row: u32,
         bits: u32,
-        before: RowBefore,
+        before: ReferenceRow,
     ) -> Result<Self, PlaceFault> {
-        // The runs are looked at before memory is taken: a place that is none is told so, however
-        // little memory there is.
+        // The runs are looked at before memory is taken: a place that is none is reported so,
+        // however little memory there is.
         let place = u64::from(bits);
         if place > 8 * bytes.len() as u64 || !is_row(before, form.width) {
             return Err(PlaceFault::Outside);
         }
-        let mut rows = RowsInTurn::new(alloc, form.width)?;
+        let mut rows = RowBuffers::new(alloc, form.width)?;
         if !rows.begin_after(before) {
             return Err(PlaceFault::Outside);
         }
@@ -94,7 +94,7 @@ impl<'a> StripReader<'a> {
             place,
             row,
             read_before: 0,
-            begun: row,
+            origin: row,
             rows,
             fault: None,
         })
@@ -113,7 +113,7 @@ impl<'a> StripReader<'a> {
         self.source = BitSource::new(bytes, self.form.order);
         self.form.rows = rows;
         self.place = 0;
-        self.begun = 0;
+        self.origin = 0;
         self.row = 0;
         self.rows.whiten_reference();
         self.fault = None;
@@ -124,7 +124,7 @@ impl<'a> StripReader<'a> {
     /// read next begins there, over this reference, which has the same width. A fault is forgotten.
     /// It takes no memory.
     // requires count { length bytes.now ≤ 4294967295 }
-    // requires due { row < rows }
+    // requires upcoming { row < rows }
     // requires few { rows ≤ most_rows }
     // requires within { bits ≤ 8 * length bytes.now }
     // requires width { length reference.now ≡ self.old.form.width }
@@ -137,17 +137,17 @@ impl<'a> StripReader<'a> {
         self.source = source;
         self.form.rows = rows;
         self.place = bits;
-        self.begun = row;
+        self.origin = row;
         self.row = row;
         self.rows.set_reference(reference);
         self.fault = None;
     }
 
-    /// Reads the next row, and answers whether there was one. It takes no memory.
+    /// Reads the next row, and returns whether there was one. It takes no memory.
     ///
     /// # Errors
     ///
-    /// Why the row that is due could not be read. Every later call answers the same, until
+    /// Why the next row could not be read. Every later call returns the same, until
     /// `restart` or `restart_at`.
     #[inline(always)]
     // ensures { IsAdvance self.old result self.new }
@@ -176,8 +176,8 @@ impl<'a> StripReader<'a> {
         }
     }
 
-    /// The reference of the row that is due: the row before it, white at a strip's beginning. After
-    /// a fault it is what it was before that call.
+    /// The reference of the next row: the row before it, white at a strip's beginning. After a
+    /// fault it is what it was before that call.
     // ensures pels { result.now ≡ self.now.reference }
     // ensures width { length result.now ≡ self.now.form.width }
     pub fn reference(&self) -> &Row {
@@ -189,7 +189,7 @@ impl<'a> StripReader<'a> {
     ///
     /// # Errors
     ///
-    /// Why the row that is due could not be read. Every later call answers the same, until
+    /// Why the next row could not be read. Every later call returns the same, until
     /// `restart` or `restart_at`.
     // ensures row { IfOk result (λ lent. IfSome lent (λ row. IsDue self.old row.now)) }
     // ensures* next { sem 𝓛 (EndsAs self.entry (IsNextRow self.old result)) }
@@ -203,24 +203,24 @@ impl<'a> StripReader<'a> {
         }
     }
 
-    /// The number of the row that is due in its strip, from 0, or how many rows the strip has, once
-    /// all are read. After a fault it is what it was before that call.
+    /// The number of the next row in its strip, from 0, or how many rows the strip has, once all
+    /// are read. After a fault it is what it was before that call.
     // ensures row { result ≡ self.now.row }
     // ensures within { result ≤ self.now.form.rows }
     pub fn row(&self) -> u32 {
         self.row
     }
 
-    /// Whether a row is due that is coded over the row before it. It is for readers of damaged
+    /// Whether a row is expected that is coded over the row before it. It is for readers of damaged
     /// strips.
     #[cold]
     // requires { self.now.fault ≡ None }
     // ensures { SaysTwoDimensional self.now.form self.now.row (bits_left self.now) result }
-    pub(crate) fn begins_two_dimensional(&self) -> bool {
+    pub(crate) fn is_two_dimensional(&self) -> bool {
         if self.row == self.form.rows {
             return false;
         }
-        let mut ahead = self.source.again();
+        let mut ahead = self.source.fork();
         match read_start(&mut ahead, self.form.coding, self.row) {
             Ok(Dimension::TwoDimensional) => true,
             Ok(Dimension::OneDimensional) => false,
@@ -228,12 +228,12 @@ impl<'a> StripReader<'a> {
         }
     }
 
-    /// Whether an EOL is due after the row that was read last, and something else follows it: in MH
-    /// and MR each row but a strip's last has an EOL after it, or nothing but zeros.
+    /// Whether an EOL is expected after the row that was read last, and something else follows it:
+    /// in MH and MR each row but a strip's last has an EOL after it, or nothing but zeros.
     #[inline(always)]
     // requires { self.now.fault ≡ None }
     // ensures { SaysUnended self.now.form self.now.row (bits_left self.now) result }
-    pub(crate) fn lacks_eol(&self) -> bool {
+    pub(crate) fn is_unterminated(&self) -> bool {
         if self.form.coding == Coding::Mmr || self.row == self.form.rows {
             return false;
         }
@@ -252,21 +252,21 @@ impl<'a> StripReader<'a> {
         self.read_before = self.rows_read();
         self.source = source;
         self.place = bits;
-        self.begun = row;
+        self.origin = row;
         self.row = row;
-        RowsInTurn::whiten_reference(&mut self.rows);
+        RowBuffers::whiten_reference(&mut self.rows);
         self.fault = None;
     }
 
-    /// Goes on after row `row`, which is lost and begins after so many bits: before the next row,
+    /// Continues after row `row`, which is lost and begins after so many bits: before the next row,
     /// at the next EOL, over a white reference; or after the strip's last row, where no EOL is
-    /// left. How many rows are lost so is answered. It takes no memory.
+    /// left. How many rows are lost so is returned. It takes no memory.
     #[cold]
     #[inline(never)]
     // requires row { row < self.old.form.rows }
     // requires within { bits ≤ 8 * length self.old.bytes }
     // ensures { PassesLost self.old row bits result self.new }
-    pub(crate) fn pass_lost(&mut self, row: u32, bits: u64) -> u32 {
+    pub(crate) fn resync_at_eol(&mut self, row: u32, bits: u64) -> u32 {
         let rows = self.form.rows;
         let mut start = BitSource::new(self.bytes, self.form.order);
         start.skip(bits);
@@ -282,28 +282,28 @@ impl<'a> StripReader<'a> {
         }
     }
 
-    /// How rows that nobody counted end before the row that is due, whose form has the most rows
-    /// that a strip has, `MOST_ROWS`: after a fault with that one, if not well.
+    /// How the rows of a strip of unknown height end before the next row, whose form has the most
+    /// rows that a strip has, `MOST_ROWS`: after a fault with that one, if not well.
     #[cold]
-    // ensures { EndsSo self.now.form.coding self.now.row (bits_left self.now) self.now.fault
+    // ensures { RowsEndAs self.now.form.coding self.now.row (bits_left self.now) self.now.fault
     //     result }
     pub(crate) fn uncounted_end(&self) -> RowsEnd {
         let mut source = BitSource::new(self.bytes, self.form.order);
         source.skip(self.place);
-        end_of_rows(&source, self.form.coding, self.row, self.fault)
+        classify_end(&source, self.form.coding, self.row, self.fault)
     }
 
-    /// How many bits of the strip stand before the row that is due. After a fault they are what
-    /// they were before that call.
+    /// How many bits of the strip stand before the next row. After a fault they are what they were
+    /// before that call.
     // ensures place { result ≡ self.now.place }
     // ensures within { result ≤ 8 * length self.now.bytes }
     pub fn bit_place(&self) -> u64 {
         self.place
     }
 
-    /// How many bits of the strip are left from the row that is due on.
+    /// How many bits of the strip are left from the next row on.
     // ensures { result ≡ length (bits_left self.now) }
-    pub(crate) fn bits_due(&self) -> u64 {
+    pub(crate) fn bits_remaining(&self) -> u64 {
         8 * self.bytes.len() as u64 - self.place
     }
 
@@ -311,9 +311,9 @@ impl<'a> StripReader<'a> {
     /// bits.
     // ensures { result ≡ self.now.read }
     pub fn rows_read(&self) -> u64 {
-        // A row adds one to `row` alone: what was read before is added up where a strip is begun. A
-        // walk adds what was read before its page, and counts itself only what it handed out.
+        // A row adds one to `row` alone: what was read before is added up where a strip is started.
+        // A walk adds what was read before its page, and counts itself only what it returned.
         self.read_before
-            .saturating_add(u64::from(self.row - self.begun))
+            .saturating_add(u64::from(self.row - self.origin))
     }
 }

@@ -2,12 +2,12 @@
 //! What is left of a damaged strip: the rows that stand between its EOLs.
 
 use crate::reader::StripReader;
-use crate::{PlaceFault, RowBefore, RowsEnd, StripFault, StripForm};
+use crate::{PlaceFault, ReferenceRow, RowsEnd, StripFault, StripForm};
 use fax_rows::{Memory, Row};
 use kit_std::alloc::Global;
 use kit_std::marker::Model;
 
-/// What became of the row that was due, and of those that are lost with it.
+/// What became of the next row, and of those that are lost with it.
 #[derive(Clone, Copy, Debug, PartialEq, Eq)]
 pub enum Salvaged {
     /// The row is found: an EOL follows it, or nothing but zeros, or it is the strip's last one
@@ -17,29 +17,29 @@ pub enum Salvaged {
     /// cause of that one. Where no EOL is left all rows from there on are lost.
     Lost {
         fault: StripFault,
-        /// How many rows are lost, the row that was due among them.
+        /// How many rows are lost, the next row among them.
         rows: u32,
     },
     /// The row can be read, and is lost all the same: something else than an EOL follows it.
-    Unended {
-        /// How many rows are lost, the row that was due among them.
+    Unterminated {
+        /// How many rows are lost, the next row among them.
         rows: u32,
     },
 }
 
 /// Goes through strips that may be damaged row by row, one strip after another. Contracts see how
-/// far a strip is gone through: its form, the row that is due, the bits from there on, the row
-/// before it, and why that one is lost, if it is.
+/// far a strip is gone through: its form, the next row, the bits from there on, the row before it,
+/// and why that one is lost, if it is.
 pub struct SalvageReader<'a> {
     reader: StripReader<'a>,
-    /// Why the row before the one that is due is lost, if it is.
+    /// Why the row before the next one is lost, if it is.
     before: Option<StripFault>,
 }
 
 impl<'a> Model for SalvageReader<'a> {}
 
 impl<'a> SalvageReader<'a> {
-    /// Before the row that is due in a strip, of which no fault was told, and no row before it is
+    /// Before the next row in a strip, of which no fault was reported, and no row before it is
     /// lost.
     // requires { reader.fault ≡ None }
     // ensures { result ≡ salvaging reader.entry None }
@@ -73,7 +73,7 @@ impl<'a> SalvageReader<'a> {
     /// before. `Memory` where a growth was refused.
     // requires count { length bytes.now ≤ 4294967295 }
     // requires limits { IsStripForm form }
-    // requires due { row < form.rows }
+    // requires upcoming { row < form.rows }
     // ensures { IsSalvageInside form bytes.now row bits before.entry result }
     pub fn inside(
         alloc: Global,
@@ -81,7 +81,7 @@ impl<'a> SalvageReader<'a> {
         form: StripForm,
         row: u32,
         bits: u32,
-        before: RowBefore,
+        before: ReferenceRow,
     ) -> Result<Self, PlaceFault> {
         let reader = StripReader::inside(alloc, bytes, form, row, bits, before)?;
         Ok(SalvageReader::of(reader))
@@ -99,70 +99,71 @@ impl<'a> SalvageReader<'a> {
         self.before = None;
     }
 
-    /// What became of the row that is due, or `None` after the last one. It takes no memory. A row
-    /// that is found is the reference then.
+    /// What became of the next row, or `None` after the last one. It takes no memory. A row that is
+    /// found is the reference then.
     #[inline(always)]
     // ensures { IsSalvageStep self.old result self.new }
     pub fn next_salvaged(&mut self) -> Option<Salvaged> {
         let place = self.reader.bit_place();
         let row = self.reader.row();
-        if let Some(fault) = self.over_lost() {
-            let rows = self.reader.pass_lost(row, place);
+        if let Some(fault) = self.lost_reference() {
+            let rows = self.reader.resync_at_eol(row, place);
             return Some(Salvaged::Lost { fault, rows });
         }
         match self.reader.advance() {
             Ok(false) => None,
             Ok(true) => {
-                if self.reader.lacks_eol() {
-                    let rows = self.reader.pass_lost(row, place);
+                if self.reader.is_unterminated() {
+                    let rows = self.reader.resync_at_eol(row, place);
                     self.before = Some(StripFault::MissingEol);
-                    return Some(Salvaged::Unended { rows });
+                    return Some(Salvaged::Unterminated { rows });
                 }
                 self.before = None;
                 Some(Salvaged::Found)
             }
             Err(fault) => {
-                let rows = self.reader.pass_lost(row, place);
+                let rows = self.reader.resync_at_eol(row, place);
                 self.before = Some(fault);
                 Some(Salvaged::Lost { fault, rows })
             }
         }
     }
 
-    /// Why the row before the one that is due is lost, where that one is coded over it.
+    /// Why the row before the next one is lost, where that one is coded over it.
     #[inline(always)]
     // ensures { IsOverLost self.now result }
-    fn over_lost(&self) -> Option<StripFault> {
+    fn lost_reference(&self) -> Option<StripFault> {
         let fault = self.before?;
-        if self.reader.begins_two_dimensional() {
+        if self.reader.is_two_dimensional() {
             Some(fault)
         } else {
             None
         }
     }
 
-    /// How rows that nobody counted end before the row that is due, or that they do not, `TooMany`.
+    /// How the rows of a strip of unknown height end before the next row, or that they do not,
+    /// `TooMany`.
     #[inline(always)]
-    // ensures { EndsSo self.now.form.coding self.now.row self.now.due None result }
+    // ensures { RowsEndAs self.now.form.coding self.now.row self.now.upcoming None result }
     pub(crate) fn rows_end(&self) -> RowsEnd {
         self.reader.uncounted_end()
     }
 
-    /// How many bits of the strip are left from the row that is due on.
-    // ensures { result ≡ length self.now.due }
-    pub fn bits_due(&self) -> u64 {
-        self.reader.bits_due()
+    /// How many bits of the strip are left from the next row on.
+    // ensures { result ≡ length self.now.upcoming }
+    pub fn bits_remaining(&self) -> u64 {
+        self.reader.bits_remaining()
     }
 
-    /// The row that was found last, or a white one: the reference of the row that is due.
+    /// The row that was found last, or a white one: the reference of the next row.
     // ensures pels { result.now ≡ self.now.reference }
     // ensures width { length result.now ≡ self.now.form.width }
     pub fn reference(&self) -> &Row {
         self.reader.reference()
     }
 
-    /// The number of the row that is due in its strip, from 0, or how many rows the strip has, once
-    /// it is gone through.
+    /// The number of the next row in its strip, from 0, or how many rows the strip has, once it is
+    /// gone through.
     // ensures { result ≡ self.now.row }
     pub fn row(&self) -> u32 {
         self.reader.row()

@@ -1,5 +1,5 @@
 // Made by tools/plain-rust of crates/fax_page/src/uncounted.rt: change that.
-//! How rows end that nobody counted.
+//! How the rows of a strip of unknown height end.
 
 use crate::lines::read_eol;
 use crate::notes::{END_OF_BLOCK, END_OF_BLOCK_BITS, RETURN_EOLS, after_end};
@@ -7,8 +7,8 @@ use crate::{Coding, RowsEnd, StripFault};
 use fax_rows::BitSource;
 
 /// Whether after so many rows, and at least one, nothing but fill is left.
-// ensures ends { IsTrue result → Spec.HasDataEnd rows source.now.left }
-// ensures more { result ≡ false → Spec.HasDataEnd rows source.now.left → ⊥ }
+// ensures ends { IsTrue result → Spec.HasDataEnd rows source.now.remaining }
+// ensures more { result ≡ false → Spec.HasDataEnd rows source.now.remaining → ⊥ }
 fn has_data_end(source: &BitSource, rows: u32) -> bool {
     if rows == 0 {
         return false;
@@ -19,9 +19,9 @@ fn has_data_end(source: &BitSource, rows: u32) -> bool {
     }
 }
 
-/// What stands where an EOL of a return to control is due.
+/// What stands where an EOL of a return to control is expected.
 #[derive(Clone, Copy)]
-enum MarkEol {
+enum RtcEol {
     /// One stands there.
     Whole,
     /// Bits that follow may make one.
@@ -30,38 +30,38 @@ enum MarkEol {
     Other,
 }
 
-/// Goes after an EOL of a return to control, and answers what stands where it is due (T.4, sections
-/// 4.1.4 and 4.2.4).
+/// Goes after an EOL of a return to control, and returns what stands where it is expected (T.4,
+/// sections 4.1.4 and 4.2.4).
 // requires with_eols { coding ≢ Mmr }
-// ensures { Code.IsMarkEol coding source.old.left result source.new.left }
-fn take_mark_eol(source: &mut BitSource, coding: Coding) -> MarkEol {
+// ensures { Code.IsMarkEol coding source.old.remaining result source.new.remaining }
+fn skip_rtc_eol(source: &mut BitSource, coding: Coding) -> RtcEol {
     if let Err(fault) = read_eol(source, false) {
         return if fault == StripFault::DataEnds {
-            MarkEol::Cut
+            RtcEol::Cut
         } else {
-            MarkEol::Other
+            RtcEol::Other
         };
     }
     match coding {
-        Coding::Mh | Coding::Mmr => MarkEol::Whole,
-        Coding::Mr if source.take(1, 1) => MarkEol::Whole,
-        Coding::Mr if source.remaining() == 0 => MarkEol::Cut,
-        Coding::Mr => MarkEol::Other,
+        Coding::Mh | Coding::Mmr => RtcEol::Whole,
+        Coding::Mr if source.take(1, 1) => RtcEol::Whole,
+        Coding::Mr if source.remaining() == 0 => RtcEol::Cut,
+        Coding::Mr => RtcEol::Other,
     }
 }
 
 /// Whether a return to control stands at a source, or may where more bits follow (T.4, section
 /// 4.1.4).
 // requires with_eols { coding ≢ Mmr }
-// ensures may { IsTrue result → Code.MayHaveReturn coding source.now.left }
-// ensures never { result ≡ false → Code.MayHaveReturn coding source.now.left → ⊥ }
+// ensures may { IsTrue result → Code.MayHaveReturn coding source.now.remaining }
+// ensures never { result ≡ false → Code.MayHaveReturn coding source.now.remaining → ⊥ }
 fn may_be_return_to_control(source: &BitSource, coding: Coding) -> bool {
-    let mut ahead = source.again();
+    let mut ahead = source.fork();
     for _eol in 0..RETURN_EOLS {
-        match take_mark_eol(&mut ahead, coding) {
-            MarkEol::Whole => {}
-            MarkEol::Cut => return true,
-            MarkEol::Other => return false,
+        match skip_rtc_eol(&mut ahead, coding) {
+            RtcEol::Whole => {}
+            RtcEol::Cut => return true,
+            RtcEol::Other => return false,
         }
     }
     true
@@ -71,26 +71,27 @@ fn may_be_return_to_control(source: &BitSource, coding: Coding) -> bool {
 /// End-of-facsimile block).
 #[cold]
 #[inline(never)]
-// ensures may { IsTrue result → Spec.MayHaveEndMark coding source.now.left }
-// ensures never { result ≡ false → Spec.MayHaveEndMark coding source.now.left → ⊥ }
+// ensures may { IsTrue result → Spec.MayHaveEndMark coding source.now.remaining }
+// ensures never { result ≡ false → Spec.MayHaveEndMark coding source.now.remaining → ⊥ }
 pub fn may_be_end_mark(source: &BitSource, coding: Coding) -> bool {
     match coding {
         Coding::Mh | Coding::Mr => may_be_return_to_control(source, coding),
         Coding::Mmr => {
             let bits = source.remaining().min(u64::from(END_OF_BLOCK_BITS)) as u32;
             source
-                .again()
+                .fork()
                 .take(END_OF_BLOCK >> (END_OF_BLOCK_BITS - bits), bits)
         }
     }
 }
 
-/// How so many rows end that nobody counted, whose data go on at this source: where this fault is
-/// in the way of the next row, or none is, since they are as many as a strip has at most.
+/// How so many rows of a strip of unknown height end, whose data continue at this source: where
+/// this fault is in the way of the next row, or none is, since they are as many as a strip has at
+/// most.
 #[cold]
 #[inline(never)]
-// ensures { Spec.EndsSo coding rows source.now.left fault result }
-pub fn end_of_rows(
+// ensures { Spec.RowsEndAs coding rows source.now.remaining fault result }
+pub fn classify_end(
     source: &BitSource,
     coding: Coding,
     rows: u32,

@@ -1,5 +1,5 @@
 // Made by tools/plain-rust of crates/fax_page/src/uncounted_salvage.rt: change that.
-//! What is left of rows that nobody counted, where they are damaged.
+//! What is left of rows of a strip of unknown height, where they are damaged.
 
 use crate::salvage_reader::{SalvageReader, Salvaged};
 use crate::{MOST_ROWS, RowsEnd, StripFault, StripForm};
@@ -7,13 +7,13 @@ use fax_rows::{Memory, Row};
 use kit_std::alloc::Global;
 use kit_std::marker::Model;
 
-/// Goes through rows that nobody counted, and that may be damaged, row by row, up to their end.
-/// Contracts see how far they are gone through.
+/// Goes through rows of a strip of unknown height, and that may be damaged, row by row, up to their
+/// end. Contracts see how far they are gone through.
 pub struct UncountedSalvage<'a> {
     reader: SalvageReader<'a>,
     /// How many rows were passed.
     row: u32,
-    /// The fault with which the rows end, once a row was lost after which none is due.
+    /// The fault with which the rows end, once a row was lost after which none is expected.
     over: Option<StripFault>,
 }
 
@@ -25,7 +25,7 @@ fn alone(salvaged: Salvaged) -> Salvaged {
     match salvaged {
         Salvaged::Found => Salvaged::Found,
         Salvaged::Lost { fault, .. } => Salvaged::Lost { fault, rows: 1 },
-        Salvaged::Unended { .. } => Salvaged::Unended { rows: 1 },
+        Salvaged::Unterminated { .. } => Salvaged::Unterminated { rows: 1 },
     }
 }
 
@@ -35,7 +35,7 @@ fn fault_of(salvaged: Salvaged) -> Option<StripFault> {
     match salvaged {
         Salvaged::Found => None,
         Salvaged::Lost { fault, .. } => Some(fault),
-        Salvaged::Unended { .. } => Some(StripFault::MissingEol),
+        Salvaged::Unterminated { .. } => Some(StripFault::MissingEol),
     }
 }
 
@@ -83,12 +83,12 @@ impl<'a> UncountedSalvage<'a> {
         self.over = None;
     }
 
-    /// What became of the row that is due. It takes no memory. A row that is found is the reference
-    /// then. Each lost row is answered alone.
+    /// What became of the next row. It takes no memory. A row that is found is the reference then.
+    /// Each lost row is returned alone.
     ///
     /// # Errors
     ///
-    /// How the rows end, where none is due. Each later call answers the same.
+    /// How the rows end, where none is expected. Each later call returns the same.
     // ensures { IsUncountedStep self.old result self.new }
     pub fn next_salvaged(&mut self) -> Result<Salvaged, RowsEnd> {
         if let Some(fault) = self.over {
@@ -106,7 +106,7 @@ impl<'a> UncountedSalvage<'a> {
         Ok(alone(salvaged))
     }
 
-    /// Passes all rows that are left, and answers how they end. It takes no memory.
+    /// Passes all rows that are left, and returns how they end. It takes no memory.
     // ensures { PassesAll self.old result self.new }
     pub fn pass_all(&mut self) -> RowsEnd {
         loop {

@@ -12,8 +12,8 @@ impl Row {
     // ensures within { result ≤ length self.now }
     // ensures right { result < length self.now → Spec.is_right_of from result ≡ true }
     pub fn next_change(&self, from: Option<u32>) -> u32 {
-        let row = self.placed();
-        row.places[row.change_after(from)]
+        let row = self.elements();
+        row.changes[row.change_after(from)]
     }
 
     /// The place of the next changing element right of `from` that is not of this colour, or the
@@ -23,8 +23,8 @@ impl Row {
     // ensures within { result ≤ length self.now }
     // ensures right { result < length self.now → Spec.is_right_of from result ≡ true }
     pub fn next_of(&self, from: Option<u32>, colour: Colour) -> u32 {
-        let row = self.placed();
-        row.places[row.b1_from(from, colour)]
+        let row = self.elements();
+        row.changes[row.b1_from(from, colour)]
     }
 }
 
@@ -37,7 +37,7 @@ impl Row {
 // ensures within { result.1 ≤ length reference.now }
 // ensures right { result.1 < length reference.now → Spec.is_right_of a0 result.1 ≡ true }
 pub fn b1_b2(reference: &Row, a0: Option<u32>, colour: Colour) -> (u32, u32) {
-    let row = reference.placed();
+    let row = reference.elements();
     let b1 = row.b1_from(a0, colour);
-    (row.places[b1], row.places[b1 + 1])
+    (row.changes[b1], row.changes[b1 + 1])
 }

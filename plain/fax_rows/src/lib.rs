@@ -3,17 +3,17 @@
 //! T.6).
 #![forbid(unsafe_code)]
 
+mod change_list;
+mod changes_of_row;
 mod changing_elements;
-mod lanes;
 mod longest_runs;
 mod one_dimensional;
 mod ones;
 mod packed;
 mod pels;
-mod placed_rows;
 mod put_rows;
 mod runs;
-mod turns;
+mod simd;
 mod two_dimensional;
 mod unpacked;
 mod white;
@@ -21,14 +21,14 @@ mod white;
 pub use changing_elements::b1_b2;
 use fax_bits::CodeFault;
 pub use fax_bits::{BitSink, BitSource, Colour, FillOrder, Memory};
-pub use lanes::first_other;
 pub use longest_runs::LongestRuns;
-pub use one_dimensional::{read_1d, read_1d_choice};
+pub use one_dimensional::{read_1d, read_1d_canonical};
 pub use pels::Row;
 pub use put_rows::{put_1d, put_2d};
+pub use simd::first_other;
 use thiserror::Error;
-pub use two_dimensional::{read_2d, read_2d_choice};
-pub use white::{take_white_1d, take_white_2d};
+pub use two_dimensional::{read_2d, read_2d_canonical};
+pub use white::{skip_white_1d, skip_white_2d};
 
 /// Why a row could not be read.
 #[derive(Clone, Copy, Debug, PartialEq, Eq, Error)]
@@ -36,7 +36,7 @@ pub enum RowFault {
     /// The bits end within a code.
     #[error("the data ends within a row")]
     DataEnds,
-    /// No code of the table that is due begins so.
+    /// No code of the table that is expected begins so.
     #[error("no code begins so")]
     BadCode,
     /// The prefix of codes that T.4 leaves to extensions.

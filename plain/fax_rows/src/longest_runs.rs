@@ -1,8 +1,8 @@
 // Made by tools/plain-rust of crates/fax_rows/src/longest_runs.rt: change that.
 //! The longest runs of a row, one after another (ITU-T T.4, section 4.1.1).
 
+use crate::changes_of_row::toggle_change;
 use crate::pels::Row;
-use crate::turns::turn;
 use kit_std::marker::Model;
 use kit_std::simd::prelude::*;
 
@@ -12,7 +12,7 @@ use kit_std::simd::prelude::*;
 // there are.
 pub struct LongestRuns<'a> {
     /// Where the next run begins, and then where each run ends.
-    places: &'a [u32],
+    changes: &'a [u32],
 }
 
 impl<'a> Model for LongestRuns<'a> {}
@@ -22,7 +22,7 @@ impl<'a> LongestRuns<'a> {
     // ensures { result ≡ runs_of row.now }
     pub fn of_row(row: &'a Row) -> Self {
         LongestRuns {
-            places: &row.places[..row.end + 1],
+            changes: &row.changes[..row.end + 1],
         }
     }
 
@@ -30,7 +30,7 @@ impl<'a> LongestRuns<'a> {
     // ensures count { result ≡ length self.now }
     // ensures few { result ≤ 2 ^ 16 }
     pub fn len(&self) -> usize {
-        self.places.len() - 1
+        self.changes.len() - 1
     }
 
     /// How many pels the next run has. `None` where no run is left.
@@ -39,11 +39,11 @@ impl<'a> LongestRuns<'a> {
     // ensures none_left { IfNone result (self.new ≡ []) }
     // ensures short { IfSome result (λ n. n < 2 ^ 16) }
     pub fn next_run(&mut self) -> Option<u32> {
-        if self.places.len() < 2 {
+        if self.changes.len() < 2 {
             return None;
         }
-        let run = self.places[1] - self.places[0];
-        self.places = &self.places[1..];
+        let run = self.changes[1] - self.changes[0];
+        self.changes = &self.changes[1..];
         Some(run)
     }
 
@@ -55,11 +55,11 @@ impl<'a> LongestRuns<'a> {
     pub fn eight_ahead(&self) -> Option<[u16; 8]> {
         // The text of `rows` is written by eight runs at a time. `skip` leaves out those that are
         // written.
-        if self.places.len() <= 8 {
+        if self.changes.len() <= 8 {
             return None;
         }
-        let begins = u32x8::from_slice(self.places);
-        let ends = u32x8::from_slice(&self.places[1..]);
+        let begins = u32x8::from_slice(self.changes);
+        let ends = u32x8::from_slice(&self.changes[1..]);
         Some((ends - begins).cast::<u16>().to_array())
     }
 
@@ -68,35 +68,35 @@ impl<'a> LongestRuns<'a> {
     // requires { count ≤ length self.old }
     // ensures { self.new ≡ drop count self.old }
     pub fn skip(&mut self, count: usize) {
-        self.places = &self.places[count..];
+        self.changes = &self.changes[count..];
     }
 }
 
 /// Whether these are the longest runs of a row of this width.
 // ensures { IsTrue result ↔ AreLongest runs.now width }
 pub(crate) fn are_longest(runs: &[u32], width: u32) -> bool {
-    let mut left = width;
+    let mut remaining = width;
     for (i, n) in runs.iter().enumerate() {
-        if (i > 0 && *n == 0) || *n > left {
+        if (i > 0 && *n == 0) || *n > remaining {
             return false;
         }
-        left -= *n;
+        remaining -= *n;
     }
-    left == 0
+    remaining == 0
 }
 
-/// Puts the places where runs end, white first, and answers where these places end.
+/// Puts the places where runs end, white first, and returns where these places end.
 // requires short { width < 2 ^ 16 }
-// requires room { HasRoom width places.old }
+// requires room { HasRoom width changes.old }
 // requires whole { sum runs.now ≡ width }
-// ensures pels { row_of places.new result width ≡ pels_of Colour.White runs.now }
-// ensures put { ArePut width places.new result width }
-pub(crate) fn put_runs(places: &mut [u32], runs: &[u32], _width: u32) -> usize {
+// ensures pels { row_of changes.new result width ≡ pels_of_runs Colour.White runs.now }
+// ensures put { AreChangesPut width changes.new result width }
+pub(crate) fn put_runs(changes: &mut [u32], runs: &[u32], _width: u32) -> usize {
     let mut end = 1;
     let mut total = 0;
     for n in runs {
         total += *n;
-        end = turn(places, end, total);
+        end = toggle_change(changes, end, total);
     }
     end
 }

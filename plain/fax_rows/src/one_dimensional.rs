@@ -2,9 +2,9 @@
 //! Rows in one-dimensional coding (ITU-T T.4, section 4.1.1).
 
 use crate::RowFault;
+use crate::changes_of_row::{push_change, put_sentinels, toggle_change_after};
 use crate::pels::Row;
-use crate::runs::last_run;
-use crate::turns::{close, put_turn, turn_after};
+use crate::runs::run_by_table;
 use fax_bits::{BitSource, Colour};
 
 /// The runs of a row that are read so far, as places of change.
@@ -15,48 +15,48 @@ struct RunsSoFar {
     /// How many pels they have.
     total: u32,
     /// Whether their codes are seen to be those that T.4 chooses.
-    is_chosen: bool,
+    is_canonical: bool,
 }
 
 impl RunsSoFar {
     /// Sees that a run after them may be one of the longest: it has pels, or is the first of its
     /// row. Else the codes are not those that T.4 chooses (T.4, section 4.1.1).
     #[inline(always)]
-    // ensures chosen { IsTrue self.new.is_chosen → IsTrue self.old.is_chosen
+    // ensures chosen { IsTrue self.new.is_canonical → IsTrue self.old.is_canonical
     //     × ((0 < run) ⊎ ((self.old.total ≡ 0) × (colour ≡ Colour.White))) }
     // ensures end { self.new.end ≡ self.old.end }
     // ensures total { self.new.total ≡ self.old.total }
     fn see(&mut self, colour: Colour, run: u32) {
         if run == 0 && (self.total > 0 || colour == Colour::Black) {
-            self.is_chosen = false;
+            self.is_canonical = false;
         }
     }
 }
 
-/// Reads a run of the colour after others, mostly by one look-up, and answers how many pels it has.
+/// Reads a run of the colour after others, mostly by one look-up, and returns how many pels it has.
 #[inline(always)]
 // requires short { width < 2 ^ 16 }
 // requires within { runs.old.total ≤ width }
-// ensures read { read_run_of colour width runs.old.total ahead.old.left
-//     ≡ answered (λ n. runs.old.total + n) result ahead.new.left }
+// ensures read { read_run_of colour width runs.old.total ahead.old.remaining
+//     ≡ answered (λ n. runs.old.total + n) result ahead.new.remaining }
 // ensures within { IfOk result (λ n. runs.old.total + n ≤ width) }
-// ensures chosen { IfOk result (λ n. IsTrue runs.new.is_chosen → IsTrue runs.old.is_chosen
-//     × (ahead.old.left ≡ run_bits colour n ++ ahead.new.left)) }
+// ensures chosen { IfOk result (λ n. IsTrue runs.new.is_canonical → IsTrue runs.old.is_canonical
+//     × (ahead.old.remaining ≡ run_bits colour n ++ ahead.new.remaining)) }
 // ensures end { runs.new.end ≡ runs.old.end }
 // ensures total { runs.new.total ≡ runs.old.total }
 // ensures same_end { KeepsEnd ahead.old ahead.new }
-// ensures shorter { OnOk result (length ahead.new.left < length ahead.old.left) }
+// ensures shorter { OnOk result (length ahead.new.remaining < length ahead.old.remaining) }
 fn next_run(
     ahead: &mut BitSource,
     colour: Colour,
     width: u32,
     runs: &mut RunsSoFar,
 ) -> Result<u32, RowFault> {
-    if let Some(pels) = ahead.run_within(colour, width - runs.total) {
+    if let Some(pels) = ahead.try_read_run(colour, width - runs.total) {
         return Ok(pels);
     }
-    let run = last_run(ahead, colour, width, runs.total)?;
-    runs.is_chosen = runs.is_chosen && run.is_chosen;
+    let run = run_by_table(ahead, colour, width, runs.total)?;
+    runs.is_canonical = runs.is_canonical && run.is_canonical;
     Ok(run.pels)
 }
 
@@ -64,23 +64,23 @@ fn next_run(
 #[inline(always)]
 // requires short { width < 2 ^ 16 }
 // requires unfinished { runs.old.total < width }
-// requires put { ArePut width places.old runs.old.end runs.old.total }
-// ensures put { OnOk result (ArePut width places.new runs.new.end runs.new.total) }
-// ensures turned { OnOk result
-//     (TurnsAt places.old places.new runs.old.end runs.new.end runs.new.total) }
-// ensures read { read_run_of colour width runs.old.total ahead.old.left
-//     ≡ answered (λ _. runs.new.total) result ahead.new.left }
+// requires put { AreChangesPut width changes.old runs.old.end runs.old.total }
+// ensures put { OnOk result (AreChangesPut width changes.new runs.new.end runs.new.total) }
+// ensures toggled { OnOk result
+//     (TogglesAt changes.old changes.new runs.old.end runs.new.end runs.new.total) }
+// ensures read { read_run_of colour width runs.old.total ahead.old.remaining
+//     ≡ answered (λ _. runs.new.total) result ahead.new.remaining }
 // ensures right { OnOk result (runs.old.total ≤ runs.new.total) }
-// ensures chosen { OnOk result (IsTrue runs.new.is_chosen → IsTrue runs.old.is_chosen
-//     × (ahead.old.left ≡ run_bits colour (runs.new.total - runs.old.total) ++ ahead.new.left)
+// ensures chosen { OnOk result (IsTrue runs.new.is_canonical → IsTrue runs.old.is_canonical
+//     × (ahead.old.remaining ≡ run_bits colour (runs.new.total - runs.old.total) ++ ahead.new.remaining)
 //     × ((0 < runs.new.total - runs.old.total)
 //     ⊎ ((runs.old.total ≡ 0) × (colour ≡ Colour.White)))) }
-// ensures room { HasRoom width places.new }
+// ensures room { HasRoom width changes.new }
 // ensures same_end { KeepsEnd ahead.old ahead.new }
-// ensures shorter { OnOk result (length ahead.new.left < length ahead.old.left) }
+// ensures shorter { OnOk result (length ahead.new.remaining < length ahead.old.remaining) }
 fn put_next_run(
     ahead: &mut BitSource,
-    places: &mut [u32],
+    changes: &mut [u32],
     width: u32,
     colour: Colour,
     runs: &mut RunsSoFar,
@@ -88,7 +88,7 @@ fn put_next_run(
     let run = next_run(ahead, colour, width, runs)?;
     runs.see(colour, run);
     runs.total += run;
-    runs.end = turn_after(places, runs.end, runs.total, run);
+    runs.end = toggle_change_after(changes, runs.end, runs.total, run);
     Ok(())
 }
 
@@ -96,37 +96,37 @@ fn put_next_run(
 #[inline(always)]
 // requires some { 0 < width }
 // requires short { width < 2 ^ 16 }
-// requires room { HasRoom width places.old }
-// ensures read { read_one_dimensional width source.old.left
-//     ≡ answered (λ runs. row_of places.new runs.end width) result source.new.left }
-// ensures chosen { IfOk result (λ runs. IsTrue runs.is_chosen → source.old.left
-//     ≡ one_dimensional_bits (row_of places.new runs.end width) ++ source.new.left) }
-// ensures put { IfOk result (λ runs. ArePut width places.new runs.end width) }
-// ensures room { HasRoom width places.new }
+// requires room { HasRoom width changes.old }
+// ensures read { read_one_dimensional width source.old.remaining
+//     ≡ answered (λ runs. row_of changes.new runs.end width) result source.new.remaining }
+// ensures chosen { IfOk result (λ runs. IsTrue runs.is_canonical → source.old.remaining
+//     ≡ one_dimensional_bits (row_of changes.new runs.end width) ++ source.new.remaining) }
+// ensures put { IfOk result (λ runs. AreChangesPut width changes.new runs.end width) }
+// ensures room { HasRoom width changes.new }
 // ensures same_end { KeepsEnd source.old source.new }
-fn read_runs(source: &mut BitSource, places: &mut [u32], width: u32) -> Result<RunsSoFar, RowFault> {
+fn read_runs(source: &mut BitSource, changes: &mut [u32], width: u32) -> Result<RunsSoFar, RowFault> {
     // One reader serves those who ask whether the codes are T.4's choice and those who do not: to
     // see it costs nothing where no run is empty.
-    let mut ahead = source.again();
+    let mut ahead = source.fork();
     let mut runs = RunsSoFar {
         end: 1,
         total: 0,
-        is_chosen: true,
+        is_canonical: true,
     };
     while runs.total < width {
-        if let Some(pair) = ahead.pair_within(runs.total, width) {
+        if let Some(pair) = ahead.try_read_run_pair(runs.total, width) {
             let middle = runs.total + pair.white;
-            let next = put_turn(places, runs.end, middle);
+            let next = push_change(changes, runs.end, middle);
             runs.total = middle + pair.black;
-            runs.end = put_turn(places, next, runs.total);
+            runs.end = push_change(changes, next, runs.total);
             continue;
         }
-        put_next_run(&mut ahead, places, width, Colour::White, &mut runs)?;
+        put_next_run(&mut ahead, changes, width, Colour::White, &mut runs)?;
         if runs.total < width {
-            put_next_run(&mut ahead, places, width, Colour::Black, &mut runs)?;
+            put_next_run(&mut ahead, changes, width, Colour::Black, &mut runs)?;
         }
     }
-    source.go_to(&ahead);
+    source.advance_to(&ahead);
     Ok(runs)
 }
 
@@ -136,40 +136,40 @@ fn read_runs(source: &mut BitSource, places: &mut [u32], width: u32) -> Result<R
 /// # Errors
 ///
 /// The fault of the first code that is no part of the row. Nothing else is said of the row then.
-// ensures read { read_one_dimensional (length row.old) source.old.left
-//     ≡ answered (λ _. row.new) result source.new.left }
+// ensures read { read_one_dimensional (length row.old) source.old.remaining
+//     ≡ answered (λ _. row.new) result source.new.remaining }
 // ensures same_width { length row.new ≡ length row.old }
-// The source goes on in the same bits.
+// The source continues in the same bits.
 // ensures same_end { KeepsEnd source.old source.new }
 pub fn read_1d(source: &mut BitSource, row: &mut Row) -> Result<(), RowFault> {
-    read_1d_choice(source, row)?;
+    read_1d_canonical(source, row)?;
     Ok(())
 }
 
-/// Reads a row as `read_1d` does, and answers whether its codes are seen to be those that T.4
+/// Reads a row as `read_1d` does, and returns whether its codes are seen to be those that T.4
 /// chooses (T.4, section 4.1.1). Where they are not seen to be so, nothing is said of them.
 ///
 /// # Errors
 ///
 /// As for `read_1d`.
 #[inline(never)]
-// ensures read { read_one_dimensional (length row.old) source.old.left
-//     ≡ answered (λ _. row.new) result source.new.left }
+// ensures read { read_one_dimensional (length row.old) source.old.remaining
+//     ≡ answered (λ _. row.new) result source.new.remaining }
 // ensures chosen { IfOk result (λ chosen. IsTrue chosen
-//     → source.old.left ≡ one_dimensional_bits row.new ++ source.new.left) }
+//     → source.old.remaining ≡ one_dimensional_bits row.new ++ source.new.remaining) }
 // ensures same_width { length row.new ≡ length row.old }
-// The source goes on in the same bits.
+// The source continues in the same bits.
 // ensures same_end { KeepsEnd source.old source.new }
-pub fn read_1d_choice(source: &mut BitSource, row: &mut Row) -> Result<bool, RowFault> {
+pub fn read_1d_canonical(source: &mut BitSource, row: &mut Row) -> Result<bool, RowFault> {
     let width = row.width;
-    let places = row.places.as_mut_slice();
-    match read_runs(source, places, width) {
+    let changes = row.changes.as_mut_slice();
+    match read_runs(source, changes, width) {
         Ok(runs) => {
-            row.end = close(places, runs.end, width);
-            Ok(runs.is_chosen)
+            row.end = put_sentinels(changes, runs.end, width);
+            Ok(runs.is_canonical)
         }
         Err(fault) => {
-            row.end = close(places, 1, width);
+            row.end = put_sentinels(changes, 1, width);
             Err(fault)
         }
     }

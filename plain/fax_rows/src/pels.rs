@@ -3,9 +3,9 @@
 
 use kit_std::prelude::{Vec, vec};
 
+use crate::change_list::ChangingElements;
+use crate::changes_of_row::{changes_up_to, colour_after, copy_changes, invert, put_sentinels};
 use crate::longest_runs::{LongestRuns, are_longest, put_runs};
-use crate::placed_rows::PlacedRow;
-use crate::turns::{close, colour_after, copy_places, places_up_to, turn_first};
 use fax_bits::{Colour, Memory};
 use kit_std::alloc::Global;
 use kit_std::marker::Model;
@@ -13,7 +13,7 @@ use kit_std::marker::Model;
 /// A row of 1 to 65,535 pels. Contracts see the list of its pels, from left to right.
 pub struct Row {
     /// A 0, the places of change in ascending order, and at least three times the width.
-    pub(crate) places: Vec<u32>,
+    pub(crate) changes: Vec<u32>,
     /// The index after the last change.
     pub(crate) end: usize,
     pub(crate) width: u32,
@@ -24,10 +24,10 @@ impl Model for Row {}
 impl Row {
     /// The row, lent as its places of change.
     #[inline(always)]
-    // ensures { placed_pels result ≡ self.now }
-    pub(crate) fn placed(&self) -> PlacedRow<'_> {
-        PlacedRow {
-            places: &self.places,
+    // ensures { element_pels result ≡ self.now }
+    pub(crate) fn elements(&self) -> ChangingElements<'_> {
+        ChangingElements {
+            changes: &self.changes,
             end: self.end,
             width: self.width,
         }
@@ -43,10 +43,10 @@ impl Row {
     // ensures pels { IfOk result (λ row. row ≡ replicate width Colour.White) }
     // ensures same_width { IfOk result (λ row. length row ≡ width) }
     pub fn white(alloc: Global, width: u32) -> Result<Row, Memory> {
-        let mut places = vec![in alloc; width; width as usize + 4].map_err(|_| Memory)?;
-        places[0] = 0;
+        let mut changes = vec![in alloc; width; width as usize + 4].map_err(|_| Memory)?;
+        changes[0] = 0;
         Ok(Row {
-            places,
+            changes,
             end: 1,
             width,
         })
@@ -65,13 +65,13 @@ impl Row {
     // requires { i < length self.now }
     // ensures { result ≡ pel_of self.now i }
     pub fn pel(&self, i: u32) -> Colour {
-        colour_after(places_up_to(&self.places, self.end, i))
+        colour_after(changes_up_to(&self.changes, self.end, i))
     }
 
     /// The changing elements, from left to right (T.4, section 4.2.1.3.1).
     // ensures { result.now ≡ filter (is_changing self.now) (range_with_len 0 (length self.now)) }
     pub fn changes(&self) -> &[u32] {
-        &self.places[1..self.end]
+        &self.changes[1..self.end]
     }
 
     /// The lengths in pels of the longest runs, white first: 0 where the row begins black
@@ -93,19 +93,19 @@ impl Row {
     /// Turns white pels black, and black ones white.
     // ensures { self.new ≡ map other_than self.old }
     pub fn exchange(&mut self) {
-        let places = self.places.as_mut_slice();
-        self.end = turn_first(places, self.end, self.width);
+        let changes = self.changes.as_mut_slice();
+        self.end = invert(changes, self.end, self.width);
     }
 
-    /// Takes the pels of a row of the same width. Mostly that row is white.
+    /// Decodes the pels of a row of the same width. Mostly that row is white.
     // requires { length self.old ≡ length row.now }
     // ensures { self.new ≡ row.now }
     pub fn set_from(&mut self, row: &Row) {
         if row.end == 1 {
             return self.whiten();
         }
-        let places = self.places.as_mut_slice();
-        copy_places(places, &row.places, row.end, self.width);
+        let changes = self.changes.as_mut_slice();
+        copy_changes(changes, &row.changes, row.end, self.width);
         self.end = row.end;
     }
 
@@ -119,8 +119,8 @@ impl Row {
         are_longest(runs, width)
     }
 
-    /// Takes the pels of the row of this width that has these longest runs, white first, and
-    /// answers whether there is one. Where there is none, the row stays as it is. It takes no
+    /// Decodes the pels of the row of this width that has these longest runs, white first, and
+    /// returns whether there is one. Where there is none, the row stays as it is. It takes no
     /// memory.
     // ensures set { IsTrue result → runs_of self.new ≡ runs.now }
     // ensures same_width { length self.new ≡ length self.old }
@@ -131,9 +131,9 @@ impl Row {
         if !are_longest(runs, self.width) {
             return false;
         }
-        let places = self.places.as_mut_slice();
-        let end = put_runs(places, runs, self.width);
-        self.end = close(places, end, self.width);
+        let changes = self.changes.as_mut_slice();
+        let end = put_runs(changes, runs, self.width);
+        self.end = put_sentinels(changes, end, self.width);
         true
     }
 
@@ -150,7 +150,7 @@ impl Row {
     // ensures { self.new ≡ replicate (length self.old) Colour.White }
     pub fn whiten(&mut self) {
         // It is public, so that a strip's reader is restarted without memory.
-        let places = self.places.as_mut_slice();
-        self.end = close(places, 1, self.width);
+        let changes = self.changes.as_mut_slice();
+        self.end = put_sentinels(changes, 1, self.width);
     }
 }

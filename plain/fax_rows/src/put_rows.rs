@@ -2,11 +2,11 @@
 //! Rows as they are written, in T.4's own choice of codes (ITU-T T.4, sections 4.1.1 and
 //! 4.2.1.3.3; T.6, section 2.2.4).
 
+use crate::change_list::RowPair;
+use crate::changes_of_row::colour_after;
 use crate::longest_runs::LongestRuns;
 use crate::pels::Row;
-use crate::placed_rows::RowPair;
 use crate::runs::other;
-use crate::turns::colour_after;
 use fax_bits::{BitSink, Colour, Memory, ModeCode, PendingBits, SHORT_RUN};
 
 /// Puts a run of the colour and a run of the other colour after it (T.4, section 4.1.1): short ones
@@ -14,8 +14,8 @@ use fax_bits::{BitSink, Colour, Memory, ModeCode, PendingBits, SHORT_RUN};
 #[inline(always)]
 // requires first { first < 2 ^ 16 }
 // requires second { second < 2 ^ 16 }
-// ensures ok { IfOk result (λ left. AppendsAllBut sink.old
-//     (pending ++ (run_bits colour first ++ run_bits (other_than colour) second)) left sink.new) }
+// ensures ok { IfOk result (λ remaining. AppendsAllBut sink.old
+//     (pending ++ (run_bits colour first ++ run_bits (other_than colour) second)) remaining sink.new) }
 // ensures err { OnErr result (AppendsPrefix sink.old
 //     (pending ++ (run_bits colour first ++ run_bits (other_than colour) second)) sink.new) }
 fn put_pair(
@@ -56,7 +56,7 @@ pub fn put_1d(row: &Row, sink: &mut BitSink) -> Result<(), Memory> {
 
 /// How far a row is written (T.4, section 4.2.1.3.1).
 #[derive(Clone, Copy)]
-struct WrittenTo {
+struct EncoderState {
     /// The place of a0, where `None` is just before the first pel.
     a0: Option<u32>,
     /// The index of a1 among the row's places.
@@ -67,7 +67,7 @@ struct WrittenTo {
 
 /// What stands ahead of a0 on the row that is written and on its reference row.
 #[derive(Clone, Copy)]
-struct ChangesAhead {
+struct CodingElements {
     /// Where the next step begins: `None` is just before the first pel.
     a0: Option<u32>,
     /// The colour of a0.
@@ -82,21 +82,21 @@ struct ChangesAhead {
     reference: usize,
 }
 
-impl ChangesAhead {
+impl CodingElements {
     /// What stands ahead inside a row.
     #[inline(always)]
-    // requires places { Spec.IsWrittenTo rows at }
+    // requires changes { Spec.IsEncoderState rows at }
     // requires unfinished { unwrap_or at.a0 0 < rows.row.width }
-    // ensures places { Spec.AreAhead rows.entry result }
+    // ensures changes { Spec.AreCodingElements rows.entry result }
     // ensures start { result.a0 ≡ at.a0 }
-    fn of(rows: RowPair, at: WrittenTo) -> ChangesAhead {
-        ChangesAhead {
+    fn of(rows: RowPair, at: EncoderState) -> CodingElements {
+        CodingElements {
             a0: at.a0,
             colour: colour_after(at.row),
-            a1: rows.row.places[at.row],
-            a2: rows.row.places[at.row + 1],
-            b1: rows.reference.places[at.reference],
-            b2: rows.reference.places[at.reference + 1],
+            a1: rows.row.changes[at.row],
+            a2: rows.row.changes[at.row + 1],
+            b1: rows.reference.changes[at.reference],
+            b2: rows.reference.changes[at.reference + 1],
             row: at.row,
             reference: at.reference,
         }
@@ -104,12 +104,12 @@ impl ChangesAhead {
 
     /// After pass mode: a0 is put under b2.
     #[inline(always)]
-    // requires places { Spec.AreAhead rows self }
-    // requires left { self.b2 < self.a1 }
-    // ensures places { Spec.IsWrittenTo rows.entry result }
+    // requires changes { Spec.AreCodingElements rows self }
+    // requires left_hand { self.b2 < self.a1 }
+    // ensures changes { Spec.IsEncoderState rows.entry result }
     // ensures start { result.a0 ≡ Some self.b2 }
-    fn after_pass(self, _rows: RowPair) -> WrittenTo {
-        WrittenTo {
+    fn after_pass(self, _rows: RowPair) -> EncoderState {
+        EncoderState {
             a0: Some(self.b2),
             row: self.row,
             reference: self.reference + 2,
@@ -118,12 +118,12 @@ impl ChangesAhead {
 
     /// After a1 that is under b1: the next b1 is the reference row's next changing element.
     #[inline(always)]
-    // requires places { Spec.AreAhead rows self }
+    // requires changes { Spec.AreCodingElements rows self }
     // requires same { self.a1 ≡ self.b1 }
-    // ensures places { Spec.IsWrittenTo rows.entry result }
+    // ensures changes { Spec.IsEncoderState rows.entry result }
     // ensures start { result.a0 ≡ Some self.a1 }
-    fn after_b1(self, _rows: RowPair) -> WrittenTo {
-        WrittenTo {
+    fn after_b1(self, _rows: RowPair) -> EncoderState {
+        EncoderState {
             a0: Some(self.a1),
             row: self.row + 1,
             reference: self.reference + 1,
@@ -132,24 +132,24 @@ impl ChangesAhead {
 
     /// After any a1.
     #[inline(always)]
-    // requires places { Spec.AreAhead rows self }
-    // ensures places { Spec.IsWrittenTo rows.entry result }
+    // requires changes { Spec.AreCodingElements rows self }
+    // ensures changes { Spec.IsEncoderState rows.entry result }
     // ensures start { result.a0 ≡ Some self.a1 }
-    fn after_a1(self, rows: RowPair) -> WrittenTo {
-        WrittenTo {
+    fn after_a1(self, rows: RowPair) -> EncoderState {
+        EncoderState {
             a0: Some(self.a1),
             row: self.row + 1,
-            reference: rows.reference.turned_b1_after(self.reference, self.a1),
+            reference: rows.reference.b1_after_vertical(self.reference, self.a1),
         }
     }
 
     /// After horizontal mode: a0 is put on a2.
     #[inline(always)]
-    // requires places { Spec.AreAhead rows self }
-    // ensures places { Spec.IsWrittenTo rows.entry result }
+    // requires changes { Spec.AreCodingElements rows self }
+    // ensures changes { Spec.IsEncoderState rows.entry result }
     // ensures start { result.a0 ≡ Some self.a2 }
-    fn after_a2(self, rows: RowPair) -> WrittenTo {
-        WrittenTo {
+    fn after_a2(self, rows: RowPair) -> EncoderState {
+        EncoderState {
             a0: Some(self.a2),
             row: self.row + 2,
             reference: rows.reference.b1_after(self.reference, self.a2),
@@ -162,7 +162,7 @@ impl ChangesAhead {
 #[inline(always)]
 // requires a1 { a1 < 2 ^ 16 }
 // requires b1 { b1 < 2 ^ 16 }
-// ensures { result ≡ Choice.chosen_mode (record { a1 = a1; a2 = 0; b1 = b1; b2 = b2 }) }
+// ensures { result ≡ Choice.canonical_mode (record { a1 = a1; a2 = 0; b1 = b1; b2 = b2 }) }
 fn choose(a1: u32, b1: u32, b2: u32) -> ModeCode {
     if b2 < a1 {
         return ModeCode::Pass;
@@ -175,23 +175,23 @@ fn choose(a1: u32, b1: u32, b2: u32) -> ModeCode {
     }
 }
 
-/// Puts the step from a0 where a1 is not under b1, and answers how far the row is written then, and
+/// Puts the step from a0 where a1 is not under b1, and returns how far the row is written then, and
 /// which bits are pending.
 #[inline(always)]
-// requires places { Spec.AreAhead rows ahead }
+// requires changes { Spec.AreCodingElements rows ahead }
 // ensures ok { IfOk result (λ next. AppendsAllBut sink.old
 //     (pending ++ Spec.bits_ahead rows.entry ahead.a0) next.1 sink.new) }
 // ensures next { IfOk result (λ next.
-//     next.0.a0 ≡ Some (Spec.place_ahead rows.entry ahead.a0)) }
-// ensures places { IfOk result (λ next. Spec.IsWrittenTo rows.entry next.0) }
+//     next.0.a0 ≡ Some (Spec.a0_ahead rows.entry ahead.a0)) }
+// ensures changes { IfOk result (λ next. Spec.IsEncoderState rows.entry next.0) }
 // ensures err { OnErr result (AppendsPrefix sink.old
 //     (pending ++ Spec.bits_ahead rows.entry ahead.a0) sink.new) }
 fn put_far_step(
     rows: RowPair,
-    ahead: ChangesAhead,
+    ahead: CodingElements,
     pending: PendingBits,
     sink: &mut BitSink,
-) -> Result<(WrittenTo, PendingBits), Memory> {
+) -> Result<(EncoderState, PendingBits), Memory> {
     let mode = choose(ahead.a1, ahead.b1, ahead.b2);
     match mode {
         ModeCode::Pass => {
@@ -213,24 +213,24 @@ fn put_far_step(
     }
 }
 
-/// Puts the next step, and answers how far the row is written then, and which bits are pending.
+/// Puts the next step, and returns how far the row is written then, and which bits are pending.
 #[inline(always)]
-// requires places { Spec.IsWrittenTo rows at }
+// requires changes { Spec.IsEncoderState rows at }
 // requires unfinished { unwrap_or at.a0 0 < rows.row.width }
 // ensures ok { IfOk result (λ next. AppendsAllBut sink.old
 //     (pending ++ Spec.bits_ahead rows.entry at.a0) next.1 sink.new) }
 // ensures next { IfOk result (λ next.
-//     next.0.a0 ≡ Some (Spec.place_ahead rows.entry at.a0)) }
-// ensures places { IfOk result (λ next. Spec.IsWrittenTo rows.entry next.0) }
+//     next.0.a0 ≡ Some (Spec.a0_ahead rows.entry at.a0)) }
+// ensures changes { IfOk result (λ next. Spec.IsEncoderState rows.entry next.0) }
 // ensures err { OnErr result (AppendsPrefix sink.old
 //     (pending ++ Spec.bits_ahead rows.entry at.a0) sink.new) }
 fn put_step(
     rows: RowPair,
-    at: WrittenTo,
+    at: EncoderState,
     pending: PendingBits,
     sink: &mut BitSink,
-) -> Result<(WrittenTo, PendingBits), Memory> {
-    let ahead = ChangesAhead::of(rows, at);
+) -> Result<(EncoderState, PendingBits), Memory> {
+    let ahead = CodingElements::of(rows, at);
     if ahead.a1 == ahead.b1 {
         let pending = pending.put_mode(sink, ModeCode::Vertical(0))?;
         return Ok((ahead.after_b1(rows), pending));
@@ -240,13 +240,13 @@ fn put_step(
 
 /// Puts the steps of a row.
 // ensures ok { OnOk result (Appends sink.old (Coded.two_dimensional_bits
-//     (placed_pels rows.entry.reference) (placed_pels rows.entry.row)) sink.new) }
+//     (element_pels rows.entry.reference) (element_pels rows.entry.row)) sink.new) }
 // ensures err { OnErr result (AppendsPrefix sink.old (Coded.two_dimensional_bits
-//     (placed_pels rows.entry.reference) (placed_pels rows.entry.row)) sink.new) }
+//     (element_pels rows.entry.reference) (element_pels rows.entry.row)) sink.new) }
 fn put_steps(rows: RowPair, sink: &mut BitSink) -> Result<(), Memory> {
-    // One index goes along the row and one along its reference: after each step both go on to the
-    // first place right of a0, by which a1, a2, a0's colour, b1 and b2 are known.
-    let mut at = WrittenTo {
+    // One index goes along the row and one along its reference: after each step both continue to
+    // the first place right of a0, by which a1, a2, a0's colour, b1 and b2 are known.
+    let mut at = EncoderState {
         a0: None,
         row: 1,
         reference: 1,
@@ -273,8 +273,8 @@ pub fn put_2d(reference: &Row, row: &Row, sink: &mut BitSink) -> Result<(), Memo
     // That its bits are read back is a law of the definitions (`laws`), which a caller calls where
     // a proof needs it.
     let rows = RowPair {
-        reference: reference.placed(),
-        row: row.placed(),
+        reference: reference.elements(),
+        row: row.elements(),
     };
     put_steps(rows, sink)
 }

@@ -17,10 +17,10 @@ pub(crate) fn other(colour: Colour) -> Colour {
 
 /// Reads a code for a run of the colour.
 #[inline(always)]
-// ensures read { read_code_of (run_table colour) source.old.left
-//     ≡ answered (λ code. code) result source.new.left }
+// ensures read { read_code_of (run_table colour) source.old.remaining
+//     ≡ answered (λ code. code) result source.new.remaining }
 // ensures same_end { KeepsEnd source.old source.new }
-// ensures shorter { OnOk result (length source.new.left < length source.old.left) }
+// ensures shorter { OnOk result (length source.new.remaining < length source.old.remaining) }
 fn read_run_code(source: &mut BitSource, colour: Colour) -> Result<RunCode, CodeFault> {
     match colour {
         Colour::White => read_code::<WhiteRuns>(source),
@@ -33,7 +33,7 @@ fn read_run_code(source: &mut BitSource, colour: Colour) -> Result<RunCode, Code
 pub(crate) struct ReadRun {
     pub pels: u32,
     /// Whether its codes are seen to be those that T.4 chooses.
-    pub is_chosen: bool,
+    pub is_canonical: bool,
 }
 
 /// Reads a run of the colour whose first pel is `from`, code by code, and names its fault where it
@@ -42,13 +42,13 @@ pub(crate) struct ReadRun {
 #[inline(never)]
 // requires width { width < 2 ^ 16 }
 // requires from { from ≤ width }
-// ensures read { read_run_of colour width from source.old.left
-//     ≡ answered (λ run. from + run.pels) result source.new.left }
-// ensures chosen { IfOk result (λ run. IsTrue run.is_chosen
-//     → source.old.left ≡ run_bits colour run.pels ++ source.new.left) }
+// ensures read { read_run_of colour width from source.old.remaining
+//     ≡ answered (λ run. from + run.pels) result source.new.remaining }
+// ensures chosen { IfOk result (λ run. IsTrue run.is_canonical
+//     → source.old.remaining ≡ run_bits colour run.pels ++ source.new.remaining) }
 // ensures within { IfOk result (λ run. from + run.pels ≤ width) }
 // ensures same_end { KeepsEnd source.old source.new }
-// ensures shorter { OnOk result (length source.new.left < length source.old.left) }
+// ensures shorter { OnOk result (length source.new.remaining < length source.old.remaining) }
 fn read_run(
     source: &mut BitSource,
     colour: Colour,
@@ -57,7 +57,7 @@ fn read_run(
 ) -> Result<ReadRun, RowFault> {
     let mut pels = 0;
     // Whether T.4 chooses the codes so far where the next one ends the run, and where it does not.
-    let mut is_chosen = true;
+    let mut is_canonical = true;
     let mut are_longest = true;
     loop {
         match read_run_code(source, colour)? {
@@ -66,14 +66,14 @@ fn read_run(
                 if from + pels > width {
                     return Err(RowFault::RunTooLong);
                 }
-                return Ok(ReadRun { pels, is_chosen });
+                return Ok(ReadRun { pels, is_canonical });
             }
             RunCode::MakeUp(more) => {
                 pels += u32::from(more);
                 if from + pels > width {
                     return Err(RowFault::RunTooLong);
                 }
-                is_chosen = are_longest;
+                is_canonical = are_longest;
                 are_longest &= u32::from(more) == LONGEST_MAKE_UP;
             }
             RunCode::Extension => return Err(RowFault::Extension),
@@ -85,15 +85,15 @@ fn read_run(
 #[inline(always)]
 // requires width { width < 2 ^ 16 }
 // requires from { from ≤ width }
-// ensures read { read_run_of colour width from source.old.left
-//     ≡ answered (λ run. from + run.pels) result source.new.left }
-// ensures ok { IfOk result (λ run. IsRun colour source.old.left run.pels source.new.left) }
-// ensures chosen { IfOk result (λ run. IsTrue run.is_chosen
-//     → source.old.left ≡ run_bits colour run.pels ++ source.new.left) }
+// ensures read { read_run_of colour width from source.old.remaining
+//     ≡ answered (λ run. from + run.pels) result source.new.remaining }
+// ensures ok { IfOk result (λ run. IsRun colour source.old.remaining run.pels source.new.remaining) }
+// ensures chosen { IfOk result (λ run. IsTrue run.is_canonical
+//     → source.old.remaining ≡ run_bits colour run.pels ++ source.new.remaining) }
 // ensures within { IfOk result (λ run. from + run.pels ≤ width) }
 // ensures same_end { KeepsEnd source.old source.new }
-// ensures shorter { OnOk result (length source.new.left < length source.old.left) }
-pub(crate) fn last_run(
+// ensures shorter { OnOk result (length source.new.remaining < length source.old.remaining) }
+pub(crate) fn run_by_table(
     source: &mut BitSource,
     colour: Colour,
     width: u32,
@@ -101,7 +101,7 @@ pub(crate) fn last_run(
 ) -> Result<ReadRun, RowFault> {
     // What is lent to a function stands in memory: so `read_run`, which knows every fault, gets a
     // copy, and the source goes to the copy's place.
-    let mut copy = source.again();
+    let mut copy = source.fork();
     let run = read_run(&mut copy, colour, width, from)?;
     source.skip_to(copy.place());
     Ok(run)

@@ -2,11 +2,11 @@
 //! The places of change of a row of packed bytes: eight pels in a byte, the leftmost in its highest
 //! bit, where 1 is black.
 
-use crate::lanes::{are_white, first_other};
+use crate::changes_of_row::toggle_change;
 use crate::ones::put_ones;
 use crate::packed::WORD;
 use crate::runs::other;
-use crate::turns::turn;
+use crate::simd::{are_white, first_other};
 use fax_bits::Colour;
 
 /// The word of eight bytes from a place on, the highest first.
@@ -30,28 +30,28 @@ fn last_colour(word: u64) -> Colour {
     }
 }
 
-/// Puts the places of change of a word of 64 pels, the first of them at place `from`, after
-/// another word, and answers where they end.
+/// Puts the places of change of a word of 64 pels, the first of them at place `from`, after another
+/// word, and returns where they end.
 #[inline(always)]
-// requires ascending { IsAscending places.old end }
-// requires left { 1 < end → slice_index places.old (end - 1) < from }
-// requires room { from + 68 ≤ length places.old }
+// requires ascending { IsAscending changes.old end }
+// requires left_hand { 1 < end → slice_index changes.old (end - 1) < from }
+// requires room { from + 68 ≤ length changes.old }
 // requires short { from + 64 < 2 ^ 32 }
-// ensures ascending { IsAscending places.new result }
-// ensures left { 1 < result → slice_index places.new (result - 1) < from + 64 }
+// ensures ascending { IsAscending changes.new result }
+// ensures left_hand { 1 < result → slice_index changes.new (result - 1) < from + 64 }
 // ensures unpacked { (b : List Bool)
-//     → IsUnpackedTo b (take end places.old) from (Spec.colour_of_bit (word_bit before 63))
+//     → IsUnpackedTo b (take end changes.old) from (Spec.colour_of_bit (word_bit before 63))
 //     → ((i : ℕ) → i < 64 → word_bit word i ≡ slice_index_or b (from + i) false)
-//     → IsUnpackedTo b (take result places.new) (from + 64)
+//     → IsUnpackedTo b (take result changes.new) (from + 64)
 //     (Spec.colour_of_bit (word_bit word 63)) }
-// ensures same_len { length places.new ≡ length places.old }
-fn put_word(places: &mut [u32], end: usize, from: u32, before: u64, word: u64) -> usize {
+// ensures same_len { length changes.new ≡ length changes.old }
+fn put_word(changes: &mut [u32], end: usize, from: u32, before: u64, word: u64) -> usize {
     // A bit is 1 where a pel has another colour than the one before it.
-    let changes = word ^ (word >> 1) ^ (before << 63);
-    put_ones(places, end, from, changes)
+    let change_bits = word ^ (word >> 1) ^ (before << 63);
+    put_ones(changes, end, from, change_bits)
 }
 
-/// Goes past white words, by eights, from one on.
+/// Skips white words, by eights, from one on.
 #[inline(always)]
 // requires short { words < 1024 }
 // requires whole { 8 * words ≤ length bytes.now }
@@ -67,7 +67,7 @@ fn past_eights(bytes: &[u8], from: u32, words: u32) -> u32 {
     k
 }
 
-/// Goes past white words, from one on.
+/// Skips white words, from one on.
 #[inline(always)]
 // requires short { words < 1024 }
 // requires whole { 8 * words ≤ length bytes.now }
@@ -83,26 +83,26 @@ fn past_white(bytes: &[u8], from: u32, words: u32) -> u32 {
     k
 }
 
-/// Puts the places of change of so many words of 64 pels, and answers where they end, and the
+/// Puts the places of change of so many words of 64 pels, and returns where they end, and the
 /// colour of the last pel: white where there is no word.
 // requires short { words < 1024 }
 // requires whole { 8 * words ≤ length bytes.now }
-// requires room { 64 * words + 4 ≤ length places.old }
-// requires first { slice_index places.old 0 ≡ 0 }
-// ensures ascending { IsAscending places.new result.0 }
-// ensures left { 1 < result.0 → slice_index places.new (result.0 - 1) < 64 * words }
-// ensures unpacked { IsUnpackedTo (bits MsbFirst bytes.now) (take result.0 places.new)
+// requires room { 64 * words + 4 ≤ length changes.old }
+// requires first { slice_index changes.old 0 ≡ 0 }
+// ensures ascending { IsAscending changes.new result.0 }
+// ensures left_hand { 1 < result.0 → slice_index changes.new (result.0 - 1) < 64 * words }
+// ensures unpacked { IsUnpackedTo (bits MsbFirst bytes.now) (take result.0 changes.new)
 //     (64 * words) result.1 }
-// ensures same_len { length places.new ≡ length places.old }
-fn places_of_words(bytes: &[u8], places: &mut [u32], words: u32) -> (usize, Colour) {
+// ensures same_len { length changes.new ≡ length changes.old }
+fn changes_of_words(bytes: &[u8], changes: &mut [u32], words: u32) -> (usize, Colour) {
     // A bit of a word that is not the one before it is a change. At the row's beginning, and after
-    // a white word, the white ones that follow are gone past: by eights, and then one by one.
+    // a white word, the white ones that follow are skipped: by eights, and then one by one.
     let mut end = 1;
     let mut before = 0;
     let mut k = past_white(bytes, 0, words);
     while k < words {
         let word = word_at(bytes, 8 * k as usize);
-        end = put_word(places, end, WORD * k, before, word);
+        end = put_word(changes, end, WORD * k, before, word);
         before = word;
         k += 1;
         if word == 0 {
@@ -112,20 +112,20 @@ fn places_of_words(bytes: &[u8], places: &mut [u32], words: u32) -> (usize, Colo
     (end, last_colour(before))
 }
 
-/// Puts the places of change of the row of `width` pels that these bytes hold, and answers where
+/// Puts the places of change of the row of `width` pels that these bytes hold, and returns where
 /// they end.
 // requires some { 0 < width }
 // requires short { width < 2 ^ 16 }
 // requires whole { length bytes.now ≡ Spec.packed_len width }
-// requires room { HasRoom width places.old }
-// ensures put { ArePut width places.new result width }
-// ensures pels { row_of places.new result width ≡ Spec.unpacked_row width bytes.now }
-pub(crate) fn places_of_bits(bytes: &[u8], places: &mut [u32], width: u32) -> usize {
+// requires room { HasRoom width changes.old }
+// ensures put { AreChangesPut width changes.new result width }
+// ensures pels { row_of changes.new result width ≡ Spec.unpacked_row width bytes.now }
+pub(crate) fn changes_of_bits(bytes: &[u8], changes: &mut [u32], width: u32) -> usize {
     let words = width / WORD;
-    let (mut end, mut colour) = places_of_words(bytes, places, words);
+    let (mut end, mut colour) = changes_of_words(bytes, changes, words);
     let mut at = first_other(bytes, u64::from(WORD * words), colour);
     while at < u64::from(width) {
-        end = turn(places, end, at as u32);
+        end = toggle_change(changes, end, at as u32);
         colour = other(colour);
         at = first_other(bytes, at + 1, colour);
     }

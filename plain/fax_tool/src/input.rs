@@ -19,11 +19,11 @@ pub trait Input: Source {
     ///
     /// `NotOpened` where there is no such file, or it cannot be opened. The source is then as it
     /// was, but that it counts one more file that was not opened, apart from calls that failed.
-    // ensures bytes { OnOk result (Self.left self.new ≡ named self.old name.now) }
+    // ensures bytes { OnOk result (Self.remaining self.new ≡ named self.old name.now) }
     // ensures taken { OnOk result (Self.taken self.new ≡ 0) }
     // ensures counts { OnOk result (Self.counts self.new ≡ no_faults) }
     // ensures refused { OnErr result (refuses self.old name.now) }
-    // ensures kept { OnErr result (Self.left self.new ≡ Self.left self.old) }
+    // ensures kept { OnErr result (Self.remaining self.new ≡ Self.remaining self.old) }
     // ensures none_taken { OnErr result (Self.taken self.new ≡ Self.taken self.old) }
     // ensures unopened { OnErr result
     //     (Self.counts self.new ≡ counts_unopened (Self.counts self.old)) }

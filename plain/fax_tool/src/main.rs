@@ -8,6 +8,7 @@
 
 use kit_std::prelude::{CollectIn, HostRuntime, String, Vec};
 
+mod args;
 mod commands;
 mod input;
 mod program;
@@ -15,12 +16,12 @@ mod refusal;
 mod run;
 mod streams;
 mod text;
-mod words;
 
+pub use args::{Command, Job, Selection, WordsFault, parse_words};
 pub use fax_bits::{FillOrder, Memory};
 use fax_files::MAX_FILE;
 pub use fax_walk::{
-    Begun, Cause, Cursor, End, FileFault, LongCursor, NotACursor, Options, StripFault, Target,
+    Cause, Cursor, End, FileFault, LongCursor, NotACursor, Options, StripFault, Target, WalkStart,
 };
 pub use input::{Input, NotOpened};
 pub use program::run_words;
@@ -31,7 +32,6 @@ use kit_std::io::Stdin;
 use kit_std::process::ExitCode;
 use kit_std::{env, io};
 pub use streams::{FromRead, Sink, Source, StreamFault, ToWrite};
-pub use words::{Command, Job, Selection, WordsFault, parse_words};
 
 /// The most bytes of an input that are read (TIFF 6.0 has no limit; this one is the program's).
 const MOST_BYTES: u64 = MAX_FILE as u64;

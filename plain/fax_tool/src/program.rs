@@ -1,11 +1,11 @@
 // Made by tools/plain-rust of crates/fax_tool/src/program.rt: change that.
 //! The program over its words: all that it does but for gathering them.
 
+use crate::args::{Job, parse_words};
 use crate::input::{Input, NotOpened};
 use crate::run::run;
 use crate::streams::Sink;
-use crate::streams::transfer::{Interruptions, give_all};
-use crate::words::{Job, parse_words};
+use crate::streams::transfer::{RetryCount, write_all};
 use kit_std::alloc::Global;
 
 /// The status where no file could be opened.
@@ -17,8 +17,8 @@ const NOT_OPENED: u8 = 3;
 // ensures said { HasFailed (E.counts err.new)
 //     ⊎ Appends (E.written err.old) (E.written err.new) (codes "fault: Open\n") }
 fn say_not_opened<E: Sink>(err: &mut E) -> u8 {
-    let mut interruptions = Interruptions::NONE;
-    match give_all(err, &mut interruptions, "fault: Open\n".as_bytes()) {
+    let mut interruptions = RetryCount::NONE;
+    match write_all(err, &mut interruptions, "fault: Open\n".as_bytes()) {
         Ok(()) | Err(_) => NOT_OPENED,
     }
 }
@@ -27,11 +27,11 @@ fn say_not_opened<E: Sink>(err: &mut E) -> u8 {
 // requires taken { I.taken input.old ≡ 0 }
 // requires counts { I.counts input.old ≡ no_faults }
 // ensures bytes { OnOk result
-//     (I.left input.new ≡ input_bytes (I.left input.old) (I.named input.old) job.now) }
+//     (I.remaining input.new ≡ input_bytes (I.remaining input.old) (I.named input.old) job.now) }
 // ensures taken { OnOk result (I.taken input.new ≡ 0) }
 // ensures counts { OnOk result (I.counts input.new ≡ no_faults) }
 // ensures refused { OnErr result (IsOfFile (I.refuses input.old) job.now) }
-// ensures kept { OnErr result (I.left input.new ≡ I.left input.old) }
+// ensures kept { OnErr result (I.remaining input.new ≡ I.remaining input.old) }
 // ensures none_taken { OnErr result (I.taken input.new ≡ 0) }
 // ensures unopened { OnErr result (I.counts input.new ≡ counts_unopened no_faults) }
 // ensures same { job.now.file ≡ None → input.new ≡ input.old }
@@ -52,7 +52,7 @@ fn open_named<I: Input>(job: &Job, input: &mut I) -> Result<(), NotOpened> {
 // ensures status { result < 4 }
 // ensures unread { AskForVersion (texts words.now) → input.new ≡ input.old }
 // ensures written { result < 2 → RunsJob (texts words.now)
-//     (inputs_after (I.left input.old) (I.named input.old) (I.taken input.new)
+//     (inputs_after (I.remaining input.old) (I.named input.old) (I.taken input.new)
 //     (I.counts input.new))
 //     (λ command input. WritesText command input
 //     (output_after (W.written out.old) (W.written out.new) (W.counts out.new))
@@ -63,12 +63,12 @@ fn open_named<I: Input>(job: &Job, input: &mut I) -> Result<(), NotOpened> {
 // ensures refused { result ≡ 3 → ((input.new ≡ input.old) × (out.new ≡ out.old)
 //     × SaysFault (texts words.now)
 //     (output_after (E.written err.old) (E.written err.new) (E.counts err.new)) result)
-//     ⊎ ((I.left input.new ≡ I.left input.old) × (out.new ≡ out.old)
+//     ⊎ ((I.remaining input.new ≡ I.remaining input.old) × (out.new ≡ out.old)
 //     × SaysNotOpened (texts words.now) (I.refuses input.old)
-//     (input_after (I.left input.old) (I.taken input.new) (I.counts input.new))
+//     (input_after (I.remaining input.old) (I.taken input.new) (I.counts input.new))
 //     (output_after (E.written err.old) (E.written err.new) (E.counts err.new)))
 //     ⊎ RunsJob (texts words.now)
-//     (inputs_after (I.left input.old) (I.named input.old) (I.taken input.new)
+//     (inputs_after (I.remaining input.old) (I.named input.old) (I.taken input.new)
 //     (I.counts input.new))
 //     (λ command input. IsRefused command input
 //     (output_after (W.written out.old) (W.written out.new) (W.counts out.new))

@@ -1,16 +1,16 @@
 // Made by tools/plain-rust of crates/fax_tool/src/run.rt: change that.
 //! A run of the program over its streams.
 
-use crate::commands::check::give_report;
-use crate::commands::convert::give_conversion;
+use crate::args::{Command, Job};
+use crate::commands::check::write_report;
+use crate::commands::convert::write_conversion;
 use crate::commands::print::{list, rows};
-use crate::commands::remains::salvage;
+use crate::commands::salvage_lines::salvage;
 use crate::commands::version::version;
 use crate::refusal::Refusal;
-use crate::streams::transfer::{Interruptions, give_all};
+use crate::streams::transfer::{RetryCount, write_all};
 use crate::streams::{Sink, Source};
 use crate::text::fault::ErrorLine;
-use crate::words::{Command, Job};
 use kit_std::alloc::Global;
 
 /// Nothing was refused: all that was asked for was written.
@@ -27,8 +27,8 @@ const REFUSED: u8 = 3;
 // ensures { IsSaid (output_after (E.written err.old) (E.written err.new) (E.counts err.new))
 //     line.now status result }
 fn say<E: Sink>(err: &mut E, line: &[u8], status: u8) -> u8 {
-    let mut interruptions = Interruptions::NONE;
-    match give_all(err, &mut interruptions, line) {
+    let mut interruptions = RetryCount::NONE;
+    match write_all(err, &mut interruptions, line) {
         Ok(()) => status,
         Err(_) => REFUSED,
     }
@@ -53,10 +53,10 @@ fn report<E: Sink>(outcome: Result<Option<ErrorLine>, Refusal>, err: &mut E) -> 
 // requires taken { R.taken input.old ≡ 0 }
 // requires output_counts { W.counts out.old ≡ no_faults }
 // ensures ok { IfOk result (IsDone command.now
-//     (input_after (R.left input.old) (R.taken input.new) (R.counts input.new))
+//     (input_after (R.remaining input.old) (R.taken input.new) (R.counts input.new))
 //     (output_after (W.written out.old) (W.written out.new) (W.counts out.new))) }
 // ensures err { IfErr result (λ refusal. IsStopped command.now refusal
-//     (input_after (R.left input.old) (R.taken input.new) (R.counts input.new))
+//     (input_after (R.remaining input.old) (R.taken input.new) (R.counts input.new))
 //     (output_after (W.written out.old) (W.written out.new) (W.counts out.new))) }
 // ensures unread { command.now ≡ Version → input.new ≡ input.old }
 fn carry_out<R: Source, W: Sink>(
@@ -68,8 +68,8 @@ fn carry_out<R: Source, W: Sink>(
     match command {
         Command::List(part) => list(alloc, part, input, out),
         Command::Rows(part) => rows(alloc, part, input, out),
-        Command::Convert(options) => give_conversion(alloc, *options, input, out),
-        Command::Check => give_report(alloc, input, out),
+        Command::Convert(options) => write_conversion(alloc, *options, input, out),
+        Command::Check => write_report(alloc, input, out),
         Command::Salvage => salvage(alloc, input, out),
         Command::Version => {
             version(out)?;
@@ -88,15 +88,15 @@ fn carry_out<R: Source, W: Sink>(
 // ensures status { (result ≡ 0) ⊎ (result ≡ 1) ⊎ (result ≡ 3) }
 // For the version nothing is read.
 // ensures unread { job.now.command ≡ Version → input.new ≡ input.old }
-// What was done is the text of what the job's command tells of the input, and no stream failed.
+// What was done is the text of what the job's command says of the input, and no stream failed.
 // ensures written { result < 3 → WritesText job.now.command
-//     (input_after (R.left input.old) (R.taken input.new) (R.counts input.new))
+//     (input_after (R.remaining input.old) (R.taken input.new) (R.counts input.new))
 //     (output_after (W.written out.old) (W.written out.new) (W.counts out.new))
 //     (output_after (E.written err.old) (E.written err.new) (E.counts err.new)) result }
 // What was refused was refused for a reason that the streams' counts show, and the output is
 // what it has to be then.
 // ensures refused { result ≡ 3 → IsRefused job.now.command
-//     (input_after (R.left input.old) (R.taken input.new) (R.counts input.new))
+//     (input_after (R.remaining input.old) (R.taken input.new) (R.counts input.new))
 //     (output_after (W.written out.old) (W.written out.new) (W.counts out.new))
 //     (output_after (E.written err.old) (E.written err.new) (E.counts err.new)) }
 pub fn run<R: Source, W: Sink, E: Sink>(

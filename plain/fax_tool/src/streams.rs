@@ -1,7 +1,7 @@
 // Made by tools/plain-rust of crates/fax_tool/src/streams.rt: change that.
 //! The streams that a run reads and writes.
 
-pub(crate) mod held;
+pub(crate) mod input_buffer;
 pub mod transfer;
 
 use kit_std::io;
@@ -20,10 +20,10 @@ pub enum StreamFault {
 /// A stream that bytes are taken from. Contracts see its bytes left, where they are known, how many
 /// bytes were taken, and how many calls were interrupted or failed; counts stay at `u64::MAX`.
 pub trait Source {
-    /// Moves the next bytes to the front of the buffer, and answers how many: 0 only where the
+    /// Moves the next bytes to the front of the buffer, and returns how many: 0 only where the
     /// buffer is empty or no byte is left.
     // ensures within { IfOk result (λ n. n ≤ length buffer.new) }
-    // ensures bytes { TakesBytes (left self.old) (left self.new) result buffer.new }
+    // ensures bytes { TakesBytes (remaining self.old) (remaining self.new) result buffer.new }
     // ensures taken { taken self.new ≡ taken_after result (taken self.old) }
     // ensures counts { counts self.new ≡ counts_after result (counts self.old) }
     fn take(&mut self, buffer: &mut [u8]) -> Result<usize, StreamFault>;
@@ -32,7 +32,7 @@ pub trait Source {
 /// A stream that bytes are given to. Contracts see its bytes written, where they are known, and how
 /// many calls were interrupted or failed; counts stay at `u64::MAX`.
 pub trait Sink {
-    /// Writes bytes from the front of the slice, and answers how many: 0 only where the slice is
+    /// Writes bytes from the front of the slice, and returns how many: 0 only where the slice is
     /// empty.
     // ensures within { IfOk result (λ n. n ≤ length bytes.now) }
     // ensures some { IfOk result (λ n. 0 < length bytes.now → 0 < n) }
@@ -89,7 +89,7 @@ pub struct FromRead<R> {
 impl<R: io::Read> FromRead<R> {
     /// The reader's bytes from here on, with counts of 0.
     // ensures reader { reader_of result ≡ reader }
-    // ensures left { ⟦<FromRead<R> as Source>⟧.left result ≡ R.remaining reader }
+    // ensures remaining { ⟦<FromRead<R> as Source>⟧.remaining result ≡ R.remaining reader }
     // ensures taken { ⟦<FromRead<R> as Source>⟧.taken result ≡ 0 }
     // ensures counts { ⟦<FromRead<R> as Source>⟧.counts result ≡ no_faults }
     pub fn new(reader: R) -> Self {
@@ -102,8 +102,8 @@ impl<R: io::Read> FromRead<R> {
 
     /// Counts a file that was not opened, apart from calls that failed. The reader stays.
     // ensures reader { reader_of self.new ≡ reader_of self.old }
-    // ensures left { ⟦<FromRead<R> as Source>⟧.left self.new
-    //     ≡ ⟦<FromRead<R> as Source>⟧.left self.old }
+    // ensures remaining { ⟦<FromRead<R> as Source>⟧.remaining self.new
+    //     ≡ ⟦<FromRead<R> as Source>⟧.remaining self.old }
     // ensures taken { ⟦<FromRead<R> as Source>⟧.taken self.new
     //     ≡ ⟦<FromRead<R> as Source>⟧.taken self.old }
     // ensures counts { ⟦<FromRead<R> as Source>⟧.counts self.new
@@ -115,7 +115,7 @@ impl<R: io::Read> FromRead<R> {
 
     /// The reader, after the bytes that were taken.
     // ensures reader { result ≡ reader_of self }
-    // ensures left { R.remaining result ≡ ⟦<FromRead<R> as Source>⟧.left self }
+    // ensures remaining { R.remaining result ≡ ⟦<FromRead<R> as Source>⟧.remaining self }
     pub fn into_inner(self) -> R {
         let FromRead { reader, .. } = self;
         reader

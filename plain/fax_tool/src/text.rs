@@ -1,11 +1,11 @@
 // Made by tools/plain-rust of crates/fax_tool/src/text.rt: change that.
 //! The text that is written: lines of rows, of pages and of faults, and numbers in them.
 
-pub mod collected;
 pub mod fault;
 pub mod lost_line;
+pub mod number_cache;
+pub mod output_buffer;
 pub mod page_line;
-pub mod remembered;
 pub mod row_line;
 
 use arrayvec::ArrayString;

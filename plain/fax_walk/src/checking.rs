@@ -75,8 +75,8 @@ pub struct Report {
     pub pages: u64,
     /// How many rows were read.
     pub rows: u64,
-    /// The first fault, with the place of the row that was due there: row 0 for a fault of the
-    /// header, of a directory or of a field.
+    /// The first fault, with the place of the next row there: row 0 for a fault of the header, of a
+    /// directory or of a field.
     pub fault: Option<(Place, Cause)>,
 }
 
@@ -217,8 +217,8 @@ fn check_page(
 // requires { header tiff.file ≡ Ok tiff.head }
 // ensures { IfOk result (Spec.IsReport tiff.entry.file) }
 fn check_pages(alloc: Global, tiff: Tiff) -> Result<Report, Memory> {
-    // It does not go by a walk, which hands out rows and not their bits. What it counts are the
-    // items of the same definition (`AreItems`).
+    // It does not go by a walk, which returns rows and not their bits. What it counts are the items
+    // of the same definition (`AreItems`).
     let mut chain = Chain::new(tiff);
     let mut report = Report {
         notes: Vec::new(alloc),
@@ -227,7 +227,7 @@ fn check_pages(alloc: Global, tiff: Tiff) -> Result<Report, Memory> {
         fault: None,
     };
     loop {
-        let page = chain.given();
+        let page = chain.yielded();
         report.pages = u64::from(page);
         let directory = match chain.next() {
             Ok(Some(directory)) => directory,

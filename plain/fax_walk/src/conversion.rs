@@ -6,19 +6,23 @@ use kit_std::prelude::Vec;
 use crate::image_conversion::ImageConversion;
 use crate::options::{ConvertFault, Options};
 use crate::output::Output;
-use crate::parts::Parts;
-use crate::sheet::Sheet;
+use crate::page_size::PageSize;
+use crate::parts::SparseBytes;
 use crate::walk::LastRow;
 use crate::{Walk, WalkFault};
 use fax_bits::Memory;
 use kit_std::alloc::Global;
 
 /// Converts images.
-// requires { BeginsWith bytes.now (codes "P4") }
+// requires { StartsWith bytes.now (codes "P4") }
 // ensures ok { IfOk result (λ output. Spec.IsConverted bytes.now options.now output) }
 // ensures err { IfErr result (λ fault. fault ≢ ConvertFault.Memory
 //     → Spec.IsNotConverted bytes.now options.now fault) }
-fn convert_images(alloc: Global, bytes: &[u8], options: &Options) -> Result<Parts, ConvertFault> {
+fn convert_images(
+    alloc: Global,
+    bytes: &[u8],
+    options: &Options,
+) -> Result<SparseBytes, ConvertFault> {
     ImageConversion::new(alloc, *options)?.finish(bytes)
 }
 
@@ -35,8 +39,8 @@ fn source_fault(fault: WalkFault) -> ConvertFault {
 /// Begins the page of a row that is its first one.
 #[inline(always)]
 // requires limits { IsPageForm last.now.form.now }
-// requires due { (part : Part) × Reads.IsLentDue options.now output.old last.now part }
-// ensures { OnOk result ((part : Part) → Reads.IsLentDue options.now output.old last.now part
+// requires upcoming { (part : Part) × Reads.IsLentUpcoming options.now output.old last.now part }
+// ensures { OnOk result ((part : Part) → Reads.IsLentUpcoming options.now output.old last.now part
 //     → IsPartWritten output.new part) }
 fn begin_page(
     alloc: Global,
@@ -47,14 +51,14 @@ fn begin_page(
     if last.place.row > 0 {
         return Ok(());
     }
-    output.begin(alloc, options, &Sheet::of_form(last.form))
+    output.begin(alloc, options, &PageSize::of_form(last.form))
 }
 
 /// Puts a row that is lent on its page.
 #[inline(always)]
 // requires limits { IsPageForm last.now.form.now }
-// requires due { (part : Part) × Reads.IsLentDue options.now output.old last.now part }
-// ensures { OnOk result ((part : Part) → Reads.IsLentDue options.now output.old last.now part
+// requires upcoming { (part : Part) × Reads.IsLentUpcoming options.now output.old last.now part }
+// ensures { OnOk result ((part : Part) → Reads.IsLentUpcoming options.now output.old last.now part
 //     → IsPutTo output.new (with_row part last.now.row.now)) }
 fn put_lent(
     alloc: Global,
@@ -70,11 +74,11 @@ fn put_lent(
     Ok(())
 }
 
-/// Puts the row that a walk handed out last on its page.
+/// Puts the row that a walk returned last on its page.
 #[inline(always)]
-// requires untold { walk.now.told ≡ None }
-// requires due { (item : RowItem) × (part : Part)
-//     × Reads.IsItemDue options.now walk.now output.old item part }
+// requires untold { walk.now.final_end ≡ None }
+// requires upcoming { (item : RowItem) × (part : Part)
+//     × Reads.IsUpcomingItem options.now walk.now output.old item part }
 // ensures { OnOk result (Reads.PutsLast options.now walk.now output.old output.new) }
 fn put_last_row(
     alloc: Global,
@@ -95,7 +99,7 @@ fn put_last_row(
 // ensures ok { IfOk result (λ output. Spec.IsConverted file.now options.now output) }
 // ensures err { IfErr result (λ fault. fault ≢ ConvertFault.Memory
 //     → Spec.IsNotConverted file.now options.now fault) }
-fn convert_file(alloc: Global, file: &[u8], options: &Options) -> Result<Parts, ConvertFault> {
+fn convert_file(alloc: Global, file: &[u8], options: &Options) -> Result<SparseBytes, ConvertFault> {
     let mut output = Output::new(alloc, options)?;
     let mut walk = Walk::start(alloc, file);
     loop {
@@ -117,7 +121,11 @@ fn convert_file(alloc: Global, file: &[u8], options: &Options) -> Result<Parts, 
 // ensures ok { IfOk result (λ output. Spec.IsConverted bytes.now options.now output) }
 // ensures err { IfErr result (λ fault. fault ≢ ConvertFault.Memory
 //     → Spec.IsNotConverted bytes.now options.now fault) }
-pub fn convert_parts(alloc: Global, bytes: &[u8], options: &Options) -> Result<Parts, ConvertFault> {
+pub fn convert_sparse(
+    alloc: Global,
+    bytes: &[u8],
+    options: &Options,
+) -> Result<SparseBytes, ConvertFault> {
     if bytes.starts_with(b"P4") {
         convert_images(alloc, bytes, options)
     } else if bytes.starts_with(b"II") || bytes.starts_with(b"MM") {
@@ -127,15 +135,15 @@ pub fn convert_parts(alloc: Global, bytes: &[u8], options: &Options) -> Result<P
     }
 }
 
-/// The bytes of what `convert_parts` answers, all of them held.
+/// The bytes of what `convert_sparse` answers, all of them held.
 ///
 /// # Errors
 ///
-/// As `convert_parts`.
+/// As `convert_sparse`.
 // ensures ok { IfOk result (λ output. Spec.IsConverted bytes.now options.now output.items) }
 // ensures err { IfErr result (λ fault. fault ≢ ConvertFault.Memory
 //     → Spec.IsNotConverted bytes.now options.now fault) }
 pub fn convert(alloc: Global, bytes: &[u8], options: &Options) -> Result<Vec<u8>, ConvertFault> {
-    let parts = convert_parts(alloc, bytes, options)?;
+    let parts = convert_sparse(alloc, bytes, options)?;
     Ok(parts.into_bytes(alloc)?)
 }

@@ -11,7 +11,7 @@ use thiserror::Error;
 /// What a cursor's text begins with, before the first colon.
 const VERSION: &str = "1";
 
-/// Where to go on: at a row of a page, both from 0.
+/// Where to continue: at a row of a page, both from 0.
 #[derive(Clone, Copy, Debug, PartialEq, Eq)]
 pub struct Cursor {
     pub page: u32,

@@ -3,15 +3,15 @@
 
 use crate::options::{ConvertFault, Options};
 use crate::output::Output;
-use crate::parts::Parts;
-use crate::sheet::Sheet;
+use crate::page_size::PageSize;
+use crate::parts::SparseBytes;
 use fax_bits::Memory;
 use fax_files::{PbmFault, PbmImage, PbmReader};
 use fax_rows::Row;
 use kit_std::alloc::Global;
 
 /// Converts an image. Where the output is too large, its rows are not looked at.
-// requires { (at : Progress) × IsPageDue options.now output.old at }
+// requires { (at : Progress) × IsUpcomingPage options.now output.old at }
 // ensures { OnOk result
 //     (Reads.PutsImage options.now output.old image.now.width image.now.rows image.now.raster.now
 //     output.new) }
@@ -21,7 +21,7 @@ fn convert_image(
     options: &Options,
     output: &mut Output,
 ) -> Result<(), Memory> {
-    output.begin(alloc, options, &Sheet::of_image(image))?;
+    output.begin(alloc, options, &PageSize::of_image(image))?;
     if let Output::TooLarge = output {
         return Ok(());
     }
@@ -49,7 +49,7 @@ impl ImageConversion {
     /// # Errors
     ///
     /// `Memory` where a growth was refused.
-    // ensures begun { IfOk result (λ new. IsConverting [] options new.images new.output) }
+    // ensures origin { IfOk result (λ new. IsConverting [] options new.images new.output) }
     // ensures options { IfOk result (λ new. new.options ≡ options) }
     pub fn new(alloc: Global, options: Options) -> Result<Self, Memory> {
         Ok(ImageConversion {
@@ -60,9 +60,9 @@ impl ImageConversion {
         })
     }
 
-    /// Takes the images that stand whole at the start of the bytes, and answers how many bytes they
-    /// have: what is left is nothing, or begins with no whole image. All bytes that are given are
-    /// fewer than 2^64.
+    /// Decodes the images that stand whole at the start of the bytes, and returns how many bytes
+    /// they have: what is left is nothing, or begins with no whole image. All bytes that are given
+    /// are fewer than 2^64.
     ///
     /// # Errors
     ///
@@ -71,7 +71,7 @@ impl ImageConversion {
     // requires { (before : List ℕ)
     //     × IsConverting before self.old.options self.old.images self.old.output
     //     × (length before + length bytes.now < 2 ^ 64) }
-    // ensures left { IfOk result (λ taken. (fault : Option PbmFault)
+    // ensures remaining { IfOk result (λ taken. (fault : Option PbmFault)
     //     × IsLeftBy bytes.now taken fault) }
     // ensures so_far { IfOk result (λ taken. (before : List ℕ)
     //     → IsConverting before self.old.options self.old.images self.old.output
@@ -83,8 +83,8 @@ impl ImageConversion {
         Ok(taken)
     }
 
-    /// Takes the images that stand whole at the start of the bytes, and answers how many bytes they
-    /// have, and the fault of the image after them, if bytes are left.
+    /// Decodes the images that stand whole at the start of the bytes, and returns how many bytes
+    /// they have, and the fault of the image after them, if bytes are left.
     // requires { (before : List ℕ)
     //     × IsConverting before self.old.options self.old.images self.old.output
     //     × (length before + length bytes.now < 2 ^ 64) }
@@ -103,7 +103,7 @@ impl ImageConversion {
                     self.images += 1;
                 }
                 Ok(None) => return Ok((bytes.len(), None)),
-                Err(fault) => return Ok((bytes.len() - reader.left().len(), Some(fault))),
+                Err(fault) => return Ok((bytes.len() - reader.remaining().len(), Some(fault))),
             }
         }
     }
@@ -118,13 +118,13 @@ impl ImageConversion {
     //     × (length before + length rest.now < 2 ^ 64) }
     // ensures ok { IfOk result (λ output. (before : List ℕ)
     //     → IsConverting before self.options self.images self.output
-    //     → BeginsWith (before ++ rest.now) (codes "P4")
+    //     → StartsWith (before ++ rest.now) (codes "P4")
     //     → Spec.IsConverted (before ++ rest.now) self.options output) }
     // ensures err { IfErr result (λ fault. fault ≢ ConvertFault.Memory → (before : List ℕ)
     //     → IsConverting before self.options self.images self.output
-    //     → BeginsWith (before ++ rest.now) (codes "P4")
+    //     → StartsWith (before ++ rest.now) (codes "P4")
     //     → Spec.IsNotConverted (before ++ rest.now) self.options fault) }
-    pub fn finish(mut self, rest: &[u8]) -> Result<Parts, ConvertFault> {
+    pub fn finish(mut self, rest: &[u8]) -> Result<SparseBytes, ConvertFault> {
         match self.take_whole(rest)? {
             (_, None) => self.output.finish(self.alloc),
             (_, Some(fault)) => Err(ConvertFault::Pbm {

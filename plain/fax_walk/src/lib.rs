@@ -2,7 +2,6 @@
 //! The walk over the rows of a TIFF-F file, from its bytes to rows with their places.
 #![forbid(unsafe_code)]
 
-mod begun;
 mod checking;
 mod conversion;
 mod cursor;
@@ -14,6 +13,7 @@ mod open_strips;
 mod opening;
 mod options;
 mod output;
+mod page_size;
 mod pages;
 mod parts;
 mod rows_from;
@@ -21,13 +21,12 @@ mod rows_left;
 mod salvage;
 mod salvage_page;
 mod salvage_rows;
-mod sheet;
 mod shown_rows;
 mod walk;
+mod walk_start;
 
-pub use begun::Begun;
 pub use checking::{Note, NoteKind, Report, check};
-pub use conversion::{convert, convert_parts};
+pub use conversion::{convert, convert_sparse};
 pub use cursor::{Cursor, NotACursor};
 pub use end::{End, WalkFault};
 pub use fax_bits::{FillOrder, Memory};
@@ -38,9 +37,10 @@ pub use image_conversion::ImageConversion;
 pub use long_cursor::{LongCursor, LongFault};
 pub use options::{ConvertFault, Options, Target};
 pub use pages::Pages;
-pub use parts::{Part, Parts, PartsLeft};
+pub use parts::{Part, SparseBytes, SparseParts};
 pub use rows_from::RowsFrom;
-pub use rows_left::{PageLeft, RowsLeft, UncountedLeft};
-pub use salvage::{Salvage, SalvageItem, Stretch};
-pub use salvage_rows::{PagePart, PlaceInStrip};
-pub use walk::{Place, PlaceInside, Walk};
+pub use rows_left::{DamagedPage, SalvagedRows, UncountedRows};
+pub use salvage::{LostRows, Salvage, SalvageItem};
+pub use salvage_rows::{SalvagedPart, StripPositionRef};
+pub use walk::{LongCursorRef, Place, Walk};
+pub use walk_start::WalkStart;

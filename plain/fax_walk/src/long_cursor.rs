@@ -13,7 +13,7 @@ use thiserror::Error;
 /// What a long cursor's text begins with, before the first colon.
 const VERSION: u32 = 2;
 
-/// Where to go on inside a strip: a cursor, how many bits of the strip stand before its row, and
+/// Where to continue inside a strip: a cursor, how many bits of the strip stand before its row, and
 /// the runs of the row before it, before any exchange of colours.
 // Runs are short for most rows, and say the row whole. That a list is the runs of a row is tested
 // before it is taken, so that a forged cursor is outside and nothing else.
@@ -39,7 +39,7 @@ pub enum LongFault {
 
 /// The number before the first colon, and what stands after it.
 // ensures { IsNumberCut text.now result }
-fn cut_number(text: &str) -> Option<(u32, &str)> {
+fn split_number(text: &str) -> Option<(u32, &str)> {
     let (digits, rest) = text.split_once(':')?;
     match number(digits) {
         Ok(number) => Some((number, rest)),
@@ -113,18 +113,18 @@ impl LongCursor {
     // ensures ok { IfOk result (λ cursor. text.now ≡ long_cursor_text cursor) }
     // ensures range { IfOk result (λ cursor. IsLongCursor cursor) }
     // ensures err { IfErr result (λ fault. fault ≡ LongFault.NotACursor
-    //     → (place : LongPlace) → IsLongCursor place → text.now ≢ long_cursor_text place) }
+    //     → (place : LongCursorValue) → IsLongCursor place → text.now ≢ long_cursor_text place) }
     pub fn parse(alloc: Global, text: &str) -> Result<LongCursor, LongFault> {
-        let Some((version, place)) = cut_number(text) else {
+        let Some((version, place)) = split_number(text) else {
             return Err(LongFault::NotACursor);
         };
-        let Some((page, place)) = cut_number(place) else {
+        let Some((page, place)) = split_number(place) else {
             return Err(LongFault::NotACursor);
         };
-        let Some((row, place)) = cut_number(place) else {
+        let Some((row, place)) = split_number(place) else {
             return Err(LongFault::NotACursor);
         };
-        let Some((bits, runs)) = cut_number(place) else {
+        let Some((bits, runs)) = split_number(place) else {
             return Err(LongFault::NotACursor);
         };
         if version != VERSION {

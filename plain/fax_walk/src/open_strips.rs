@@ -10,7 +10,7 @@ use fax_rows::Row;
 use kit_std::alloc::Global;
 
 /// A page of a TIFF file that is being written: the strips that are whole, and the one that is not.
-pub(crate) struct OpenStrips {
+pub(crate) struct StripsWriter {
     alloc: Global,
     pub(crate) form: PageForm,
     k: u32,
@@ -19,13 +19,13 @@ pub(crate) struct OpenStrips {
     rows: u32,
 }
 
-impl OpenStrips {
+impl StripsWriter {
     /// Before the first row.
     // requires limits { IsPageForm form }
     // requires some_k { 0 < k }
     // ensures { Spec.HasPutRows form k [] result }
     pub(crate) fn new(alloc: Global, form: PageForm, k: u32) -> Self {
-        OpenStrips {
+        StripsWriter {
             alloc,
             form,
             k,
@@ -48,7 +48,7 @@ impl OpenStrips {
     /// Begins the next strip, which has this number, where none is open.
     #[inline(always)]
     // requires number { strip ≡ length self.old.done.items }
-    // requires due { (row : List Colour) × Spec.TakesRow self.old row }
+    // requires upcoming { (row : List Colour) × Spec.TakesRow self.old row }
     // ensures { OnOk result (Spec.OpensStrip self.old self.new) }
     fn open_strip(&mut self, strip: u32) -> Result<(), Memory> {
         if let Some(_) = self.writer {

@@ -37,8 +37,8 @@ impl From<End> for OpenFault {
     }
 }
 
-/// A page that is due, and none of whose strips is read yet.
-pub(crate) struct DuePage<'a> {
+/// The next page, and none of whose strips is read yet.
+pub(crate) struct UnopenedPage<'a> {
     pub(crate) page: u32,
     /// The chain after the page's directory.
     pub(crate) chain: Chain<'a>,
@@ -46,7 +46,7 @@ pub(crate) struct DuePage<'a> {
     pub(crate) strips: Strips<'a>,
 }
 
-impl<'a> Model for DuePage<'a> {}
+impl<'a> Model for UnopenedPage<'a> {}
 
 /// The chain of a file's directories, before the one of this number, or how the rows end where
 /// there are fewer before it.
@@ -68,20 +68,20 @@ pub(crate) fn chain_before<'a>(file: &'a [u8], page: u32) -> Result<Chain<'a>, E
     Ok(chain)
 }
 
-impl<'a> DuePage<'a> {
-    /// The page that is due after the directories that a chain has handed out, or none after the
-    /// last one, or the fault in its place.
+impl<'a> UnopenedPage<'a> {
+    /// The next page after the directories that a chain has returned, or none after the last one,
+    /// or the fault in its place.
     // requires { Spec.IsFileChain chain }
     // ensures { Spec.IsPageAnswer chain.entry result }
     pub(crate) fn after(mut chain: Chain<'a>) -> Result<Option<Self>, End> {
-        let page = chain.given();
+        let page = chain.yielded();
         let directory = match chain.next() {
             Ok(Some(directory)) => directory,
             Ok(None) => return Ok(None),
             Err(fault) => return Err(End::of_file(page, 0, fault)),
         };
         match directory.page_and_strips() {
-            Ok((form, strips)) => Ok(Some(DuePage {
+            Ok((form, strips)) => Ok(Some(UnopenedPage {
                 page,
                 chain,
                 form,
@@ -97,7 +97,7 @@ impl<'a> DuePage<'a> {
     // ensures err { IfErr result (Spec.EndsAt file.now cursor) }
     pub(crate) fn at(file: &'a [u8], cursor: Cursor) -> Result<Option<Self>, End> {
         let chain = chain_before(file, cursor.page)?;
-        let Some(page) = DuePage::after(chain)? else {
+        let Some(page) = UnopenedPage::after(chain)? else {
             return if cursor.row == 0 {
                 Ok(None)
             } else {

@@ -56,7 +56,7 @@ pub enum ConvertFault {
     /// The first fault of a PBM, at this image, from 0.
     #[error("image {image}: {fault}")]
     Pbm { image: u64, fault: PbmFault },
-    /// The first fault of a TIFF file, where this row of a page was due, both from 0.
+    /// The first fault of a TIFF file, at this row of a page, both from 0.
     #[error("page {page} row {row}: {cause}")]
     Source { page: u32, row: u32, cause: Cause },
     /// What is written has more than 268,435,456 bytes, or a TIFF file more than 65,535 pages.

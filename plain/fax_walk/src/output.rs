@@ -1,10 +1,10 @@
 // Made by tools/plain-rust of crates/fax_walk/src/output.rt: change that.
 //! What a conversion writes, page by page.
 
-use crate::open_strips::OpenStrips;
+use crate::open_strips::StripsWriter;
 use crate::options::{ConvertFault, Options};
-use crate::parts::Parts;
-use crate::sheet::Sheet;
+use crate::page_size::PageSize;
+use crate::parts::SparseBytes;
 use fax_bits::Memory;
 use fax_files::{Coding, MAX_FILE, TiffWriter, WriteFault};
 use fax_rows::Row;
@@ -19,12 +19,12 @@ const MAX_PAGES: u16 = 65_535;
 /// What is written, page by page.
 // An output that is too large takes every row without doing anything, and stays so whatever
 // follows. An image is measured before its rows are put, a page of a TIFF file when its strips are
-// whole. How many pages there are is known, and told in each, when all are written.
+// whole. How many pages there are is known, and reported in each, when all are written.
 pub(crate) enum Output {
     /// Images.
-    Images(Parts),
+    Images(SparseBytes),
     /// A TIFF file, and the page of it that is being written, in this coding.
-    File(Coding, TiffWriter, Option<OpenStrips>),
+    File(Coding, TiffWriter, Option<StripsWriter>),
     /// It is too large, and its bytes were given back.
     TooLarge,
 }
@@ -34,7 +34,7 @@ impl Output {
     // ensures { IfOk result (Spec.IsBeginning options.now) }
     pub(crate) fn new(alloc: Global, options: &Options) -> Result<Self, Memory> {
         let Some(coding) = options.target.coding() else {
-            return Ok(Output::Images(Parts::new(alloc)));
+            return Ok(Output::Images(SparseBytes::new(alloc)));
         };
         let writer = TiffWriter::new(alloc, MAX_PAGES)?;
         Ok(Output::File(coding, writer, None))
@@ -42,13 +42,13 @@ impl Output {
 
     /// Begins a page.
     // requires limits { Spec.IsSheet sheet.now }
-    // requires due { (at : Progress) × Spec.IsPageDue options.now self.old at }
+    // requires upcoming { (at : Progress) × Spec.IsUpcomingPage options.now self.old at }
     // ensures { OnOk result (Spec.BeginsPage options.now self.old sheet.now self.new) }
     pub(crate) fn begin(
         &mut self,
         alloc: Global,
         options: &Options,
-        sheet: &Sheet,
+        sheet: &PageSize,
     ) -> Result<(), Memory> {
         match self {
             Output::Images(parts) => {
@@ -65,7 +65,7 @@ impl Output {
                     return Ok(());
                 }
                 let form = sheet.form(options, *coding);
-                *open = Some(OpenStrips::new(alloc, form, options.k));
+                *open = Some(StripsWriter::new(alloc, form, options.k));
             }
             Output::TooLarge => {}
         }
@@ -108,10 +108,10 @@ impl Output {
     /// The bytes of all pages.
     // ensures ok { IfOk result (Spec.FinishesAs self) }
     // ensures err { IfErr result (Spec.IsRefusedAs self) }
-    pub(crate) fn finish(self, alloc: Global) -> Result<Parts, ConvertFault> {
+    pub(crate) fn finish(self, alloc: Global) -> Result<SparseBytes, ConvertFault> {
         match self {
             Output::Images(parts) => Ok(parts),
-            Output::File(_, writer, _) => Ok(Parts::of_bytes(alloc, writer.finish())),
+            Output::File(_, writer, _) => Ok(SparseBytes::of_bytes(alloc, writer.finish())),
             Output::TooLarge => Err(ConvertFault::OutputTooLarge),
         }
     }

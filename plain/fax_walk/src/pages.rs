@@ -1,7 +1,7 @@
 // Made by tools/plain-rust of crates/fax_walk/src/pages.rt: change that.
 //! The pages of a file in the order of their chain, with their forms.
 
-use crate::opening::DuePage;
+use crate::opening::UnopenedPage;
 use crate::{Cursor, End, WalkFault};
 use fax_files::{Chain, PageForm};
 use kit_std::marker::Model;
@@ -10,22 +10,22 @@ use kit_std::marker::Model;
 enum PagesStage<'a> {
     /// Nothing is read yet.
     Before,
-    /// The page after these directories is due.
+    /// The page after these directories is expected.
     After(Chain<'a>),
     /// The pages have ended.
     Ended(End),
 }
 
 /// A reader of a file's pages, without their strips. Contracts see its file, the cursor that it
-/// began with, how many pages it handed out, and how the pages ended, once it told that. It takes
+/// began with, how many pages it returned, and how the pages ended, once it reported that. It takes
 /// no memory.
-// It counts what it handed out, so that its contract can say page number `given`; its view has no
+// It counts what it returned, so that its contract can say page number `yielded`; its view has no
 // stage. It takes no memory, so that its `WalkFault` is never `Memory`.
 pub struct Pages<'a> {
     file: &'a [u8],
-    begun: Cursor,
-    /// How many pages were handed out.
-    given: u32,
+    origin: Cursor,
+    /// How many pages were returned.
+    yielded: u32,
     /// The cursor after the last of them, or the one that the reader began with.
     cursor: Cursor,
     stage: PagesStage<'a>,
@@ -33,25 +33,25 @@ pub struct Pages<'a> {
 
 impl<'a> Model for Pages<'a> {}
 
-/// The page after the directories that a chain has handed out, or how the pages end there.
+/// The page after the directories that a chain has returned, or how the pages end there.
 // requires { IsFileChain chain }
-// ensures ok { IfOk result (λ due. Spec.IsPageAfter chain.entry due) }
-// ensures err { IfErr result (λ end. IsForm chain.entry.tiff.file chain.entry.given (ends_as end)) }
-fn page_after<'a>(chain: Chain<'a>) -> Result<DuePage<'a>, End> {
-    match DuePage::after(chain) {
+// ensures ok { IfOk result (λ upcoming. Spec.IsPageAfter chain.entry upcoming) }
+// ensures err { IfErr result (λ end. IsForm chain.entry.tiff.file chain.entry.yielded (ends_as end)) }
+fn page_after<'a>(chain: Chain<'a>) -> Result<UnopenedPage<'a>, End> {
+    match UnopenedPage::after(chain) {
         Ok(Some(page)) => Ok(page),
-        Ok(None) => Err(End::Proper),
+        Ok(None) => Err(End::EndOfPages),
         Err(end) => Err(end),
     }
 }
 
 /// The first page from a cursor on: the one that it names at row 0, else the one after it; or how
 /// the pages end there.
-// ensures ok { IfOk result (Spec.IsFirstDue file.now cursor) }
+// ensures ok { IfOk result (Spec.IsFirstUpcoming file.now cursor) }
 // ensures err { IfErr result (IsFormTail file.now cursor []) }
-fn first_page<'a>(file: &'a [u8], cursor: Cursor) -> Result<DuePage<'a>, End> {
-    let Some(page) = DuePage::at(file, cursor)? else {
-        return Err(End::Proper);
+fn first_page<'a>(file: &'a [u8], cursor: Cursor) -> Result<UnopenedPage<'a>, End> {
+    let Some(page) = UnopenedPage::at(file, cursor)? else {
+        return Err(End::EndOfPages);
     };
     if cursor.row == 0 {
         Ok(page)
@@ -73,32 +73,32 @@ impl<'a> Pages<'a> {
     pub fn resume(file: &'a [u8], cursor: Cursor) -> Self {
         Pages {
             file,
-            begun: cursor,
-            given: 0,
+            origin: cursor,
+            yielded: 0,
             cursor,
             stage: PagesStage::Before,
         }
     }
 
-    /// The cursor after the last page that was handed out, or the one that the reader began with.
+    /// The cursor after the last page that was returned, or the one that the reader began with.
     // ensures { IsCursorOfPages self.now result }
     pub fn cursor(&self) -> Cursor {
         self.cursor
     }
 
-    /// The page that is due, or how the pages end.
-    // ensures ok { IfOk result (Spec.IsDueIn self.now) }
+    /// The next page, or how the pages end.
+    // ensures ok { IfOk result (Spec.IsUpcomingIn self.now) }
     // ensures err { IfErr result (Spec.EndsNow self.now) }
-    fn due(&self) -> Result<DuePage<'a>, End> {
+    fn peek(&self) -> Result<UnopenedPage<'a>, End> {
         match &self.stage {
-            PagesStage::Before => first_page(self.file, self.begun),
-            PagesStage::After(chain) => page_after(chain.again()),
+            PagesStage::Before => first_page(self.file, self.origin),
+            PagesStage::After(chain) => page_after(chain.fork()),
             PagesStage::Ended(end) => Err(*end),
         }
     }
 
-    /// Hands out the next page's number, from 0, and its form, or `None` once all pages were handed
-    /// out. It takes no memory.
+    /// Returns the next page's number, from 0, and its form, or `None` once all pages were
+    /// returned. It takes no memory.
     ///
     /// # Errors
     ///
@@ -106,11 +106,11 @@ impl<'a> Pages<'a> {
     /// of the file, from then on. Never `Memory`.
     // ensures { IsNextPage self.old result self.new }
     pub fn next_page(&mut self) -> Result<Option<(u32, PageForm)>, WalkFault> {
-        match self.due() {
+        match self.peek() {
             Ok(page) => {
-                self.given += 1;
+                self.yielded += 1;
                 self.cursor = Cursor {
-                    page: page.chain.given(),
+                    page: page.chain.yielded(),
                     row: 0,
                 };
                 self.stage = PagesStage::After(page.chain);

@@ -14,35 +14,35 @@ const LEAST_GAP: usize = 64;
 
 /// Zeros that are not held, after so many bytes that are.
 #[derive(Clone, Copy)]
-struct Gap {
+struct ZeroRun {
     held: usize,
     zeros: usize,
 }
 
 /// The bytes of an output. White rows of an image are counted, and not held. Contracts see all of
 /// the bytes.
-pub struct Parts {
+pub struct SparseBytes {
     held: Vec<u8>,
-    gaps: Vec<Gap>,
+    gaps: Vec<ZeroRun>,
     /// How many of the held bytes stand before the last gap.
     placed: usize,
     /// How many zeros the gaps have.
     zeros: usize,
 }
 
-impl Model for Parts {}
+impl Model for SparseBytes {}
 
-impl Parts {
+impl SparseBytes {
     /// No bytes.
     // ensures { result ≡ [] }
     pub(crate) fn new(alloc: Global) -> Self {
-        Parts::of_bytes(alloc, Vec::new(alloc))
+        SparseBytes::of_bytes(alloc, Vec::new(alloc))
     }
 
     /// These bytes, all of them held.
     // ensures { result ≡ bytes.items }
     pub(crate) fn of_bytes(alloc: Global, bytes: Vec<u8>) -> Self {
-        Parts {
+        SparseBytes {
             held: bytes,
             gaps: Vec::new(alloc),
             placed: 0,
@@ -58,8 +58,8 @@ impl Parts {
 
     /// All parts, in order.
     // ensures { result ≡ self.now }
-    pub fn parts(&self) -> PartsLeft<'_> {
-        PartsLeft {
+    pub fn parts(&self) -> SparseParts<'_> {
+        SparseParts {
             held: &self.held,
             gaps: &self.gaps,
         }
@@ -73,7 +73,7 @@ impl Parts {
     }
 
     /// Appends zeros, which are not held, to bytes that are some already.
-    // requires begun { 1 ≤ length self.old }
+    // requires origin { 1 ≤ length self.old }
     // requires room { length self.old + zeros ≤ max_file }
     // ensures { OnOk result (self.new ≡ self.old ++ replicate zeros 0) }
     fn put_zeros(&mut self, zeros: usize) -> Result<(), Memory> {
@@ -84,7 +84,7 @@ impl Parts {
             self.zeros += zeros;
             return Ok(());
         }
-        self.gaps.push(Gap { held, zeros }).map_err(|_| Memory)?;
+        self.gaps.push(ZeroRun { held, zeros }).map_err(|_| Memory)?;
         self.placed += held;
         self.zeros += zeros;
         Ok(())
@@ -110,8 +110,8 @@ impl Parts {
         }
         let mut bytes = Vec::new(alloc);
         bytes.reserve(self.len()).map_err(|_| Memory)?;
-        let mut left = self.parts();
-        while let Some(part) = left.next_part() {
+        let mut remaining = self.parts();
+        while let Some(part) = remaining.next_part() {
             bytes.extend_from_slice(part.held).map_err(|_| Memory)?;
             bytes
                 .resize(bytes.len() + part.zeros, 0)
@@ -131,15 +131,15 @@ pub struct Part<'a> {
 }
 
 /// The parts of an output that are left. Contracts see their bytes.
-pub struct PartsLeft<'a> {
+pub struct SparseParts<'a> {
     held: &'a [u8],
-    gaps: &'a [Gap],
+    gaps: &'a [ZeroRun],
 }
 
-impl<'a> Model for PartsLeft<'a> {}
+impl<'a> Model for SparseParts<'a> {}
 
-impl<'a> PartsLeft<'a> {
-    /// The next part, or none where all parts were handed out.
+impl<'a> SparseParts<'a> {
+    /// The next part, or none where all parts were returned.
     // ensures part { IfSome result (λ part. self.old ≡ part_bytes part ++ self.new) }
     // ensures some { IfSome result (λ part. 0 < length part.held.now) }
     // ensures end { IfNone result (self.old ≡ []) }

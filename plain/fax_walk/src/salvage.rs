@@ -11,7 +11,7 @@ use kit_std::marker::Model;
 
 /// Rows of a page that are lost, one after another.
 #[derive(Clone, Copy, Debug, PartialEq, Eq)]
-pub struct Stretch {
+pub struct LostRows {
     /// The page, from 0.
     pub page: u32,
     /// The first of them, from 0.
@@ -22,22 +22,22 @@ pub struct Stretch {
     pub cause: Cause,
 }
 
-/// What is handed out of a damaged file.
+/// What is returned of a damaged file.
 #[derive(Clone, Copy, Debug, PartialEq, Eq)]
 pub enum SalvageItem {
     /// A row that is found; `Salvage::row` lends it.
     Row(Place),
     /// Rows that are lost. A stretch ends where a row is found or the page ends.
-    Lost(Stretch),
+    Lost(LostRows),
     /// A page whose form is refused, so that nothing of it is read.
     Refused { page: u32, fault: FileFault },
 }
 
 /// What a chain of directories has next.
-enum NextPage<'a> {
+enum ChainStep<'a> {
     /// Nothing more: the last page was the one before.
     Ends,
-    /// Nothing more: no directory stands where the next one is due.
+    /// Nothing more: no directory stands where the next one begins.
     Broken,
     /// A page that is refused, and the chain after it.
     Refused {
@@ -51,33 +51,33 @@ enum NextPage<'a> {
     },
 }
 
-/// The page that is due after the directories that a chain has handed out.
+/// The next page after the directories that a chain has returned.
 #[cold]
 #[inline(never)]
 // requires { IsFileChain chain.now }
 // ensures { IfOk result (Spec.IsNextPage chain.now) }
-fn next_page<'a>(alloc: Global, chain: &Chain<'a>) -> Result<NextPage<'a>, Memory> {
-    let number = chain.given();
-    let mut chain = chain.again();
+fn next_page<'a>(alloc: Global, chain: &Chain<'a>) -> Result<ChainStep<'a>, Memory> {
+    let number = chain.yielded();
+    let mut chain = chain.fork();
     let directory = match chain.next() {
         Ok(Some(directory)) => directory,
-        Ok(None) => return Ok(NextPage::Ends),
-        Err(_fault) => return Ok(NextPage::Broken),
+        Ok(None) => return Ok(ChainStep::Ends),
+        Err(_fault) => return Ok(ChainStep::Broken),
     };
     match directory.page_and_strips() {
-        Err(fault) => Ok(NextPage::Refused { fault, chain }),
+        Err(fault) => Ok(ChainStep::Refused { fault, chain }),
         Ok((form, strips)) => {
             let page = SalvagePage::open(alloc, number, form, strips)?;
-            Ok(NextPage::Entered { page, chain })
+            Ok(ChainStep::Entered { page, chain })
         }
     }
 }
 
-/// Leaves the page that is gone through, if one is, and answers whether it lies wholly in the file,
+/// Leaves the page that is gone through, if one is, and returns whether it lies wholly in the file,
 /// and no row of it is lost.
 // ensures none { page.new ≡ None }
 // ensures clean { result ≡ Spec.was_clean page.old }
-fn leave(page: &mut Option<SalvagePage>) -> bool {
+fn close_page(page: &mut Option<SalvagePage>) -> bool {
     let clean = match page {
         None => true,
         Some(page) => page.is_clean(),
@@ -86,8 +86,8 @@ fn leave(page: &mut Option<SalvagePage>) -> bool {
     clean
 }
 
-/// Hands out what is next on the page that is gone through, or `None` where nothing is left of it,
-/// or no page was entered.
+/// Returns what is next on the page that is gone through, or `None` where nothing is left of it, or
+/// no page was entered.
 #[inline(always)]
 // ensures { Spec.GivesItem page.old result page.new }
 fn item_of_page(page: &mut Option<SalvagePage>) -> Option<SalvageItem> {
@@ -95,23 +95,23 @@ fn item_of_page(page: &mut Option<SalvagePage>) -> Option<SalvageItem> {
         None => None,
         Some(page) => {
             let item = page.next_item();
-            page.items_are_left();
+            page.lemma_items_left();
             item
         }
     }
 }
 
-/// Goes through a file page after page, also after one that is refused, and hands out each row that
+/// Goes through a file page after page, also after one that is refused, and returns each row that
 /// is found, each stretch of rows that are lost, and each page that is refused. Contracts see its
-/// file, how many items it handed out, and the row that was found last.
+/// file, how many items it returned, and the row that was found last.
 pub struct Salvage<'a> {
     alloc: Global,
-    /// The directories that are due, or none where the file has no good header.
+    /// The directories that are expected, or none where the file has no good header.
     chain: Option<Chain<'a>>,
     /// The page that is gone through, if one was entered.
     page: Option<SalvagePage<'a>>,
-    /// How many items were handed out.
-    given: u64,
+    /// How many items were returned.
+    yielded: u64,
     /// Whether the pages that were left lie wholly in the file, and nothing of them is lost.
     whole: bool,
 }
@@ -127,52 +127,51 @@ impl<'a> Salvage<'a> {
                 alloc,
                 chain: Some(Chain::new(tiff)),
                 page: None,
-                given: 0,
+                yielded: 0,
                 whole: true,
             },
             Err(_fault) => Salvage {
                 alloc,
                 chain: None,
                 page: None,
-                given: 0,
+                yielded: 0,
                 whole: false,
             },
         }
     }
 
-    /// Hands out what is next, or `None` after all. It takes memory only where a page is entered.
+    /// Returns what is next, or `None` after all. It takes memory only where a page is entered.
     ///
     /// # Errors
     ///
-    /// `Memory` where a growth was refused. Then nothing was handed out, and it may be called
-    /// again.
+    /// `Memory` where a growth was refused. Then nothing was returned, and it may be called again.
     #[inline(always)]
     // ensures { IsNextLeft self.old result self.new }
     pub fn next_item(&mut self) -> Result<Option<SalvageItem>, Memory> {
         loop {
             if let Some(item) = item_of_page(&mut self.page) {
-                self.given += 1;
+                self.yielded += 1;
                 return Ok(Some(item));
             }
-            let clean = leave(&mut self.page);
+            let clean = close_page(&mut self.page);
             self.whole &= clean;
             let Some(chain) = &self.chain else {
                 return Ok(None);
             };
-            let page = chain.given();
+            let page = chain.yielded();
             match next_page(self.alloc, chain)? {
-                NextPage::Ends => return Ok(None),
-                NextPage::Broken => {
+                ChainStep::Ends => return Ok(None),
+                ChainStep::Broken => {
                     self.whole = false;
                     return Ok(None);
                 }
-                NextPage::Refused { fault, chain } => {
+                ChainStep::Refused { fault, chain } => {
                     self.chain = Some(chain);
-                    self.given += 1;
+                    self.yielded += 1;
                     self.whole = false;
                     return Ok(Some(SalvageItem::Refused { page, fault }));
                 }
-                NextPage::Entered { page, chain } => {
+                ChainStep::Entered { page, chain } => {
                     self.page = Some(page);
                     self.chain = Some(chain);
                 }
@@ -180,9 +179,9 @@ impl<'a> Salvage<'a> {
         }
     }
 
-    /// Whether it is seen that nothing of the file is lost, once all was handed out: then its rows
+    /// Whether it is seen that nothing of the file is lost, once all was returned: then its rows
     /// end properly. Before that, whether it is seen so of the pages that were left. `false` says
-    /// nothing: what is lost was handed out.
+    /// nothing: what is lost was returned.
     // ensures { result ≡ self.now.whole }
     pub fn is_whole(&self) -> bool {
         self.whole

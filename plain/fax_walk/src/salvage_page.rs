@@ -3,8 +3,8 @@
 
 use crate::Place;
 use crate::open_page::{row_for_exchange, set_exchanged};
-use crate::salvage::{SalvageItem, Stretch};
-use crate::salvage_rows::{PagePart, SalvageRows};
+use crate::salvage::{LostRows, SalvageItem};
+use crate::salvage_rows::{SalvageRows, SalvagedPart};
 use fax_bits::Memory;
 use fax_files::{Cause, PageForm, Strips};
 use fax_rows::Row;
@@ -15,13 +15,13 @@ use kit_std::marker::Model;
 /// lost for this cause.
 // requires { Spec.HasRoom lost rows }
 // ensures { result ≡ Spec.longer lost page row rows cause }
-fn longer(lost: Option<Stretch>, page: u32, row: u32, rows: u32, cause: Cause) -> Stretch {
+fn longer(lost: Option<LostRows>, page: u32, row: u32, rows: u32, cause: Cause) -> LostRows {
     match lost {
-        Some(stretch) => Stretch {
+        Some(stretch) => LostRows {
             rows: stretch.rows + rows,
             ..stretch
         },
-        None => Stretch {
+        None => LostRows {
             page,
             row,
             rows,
@@ -31,18 +31,18 @@ fn longer(lost: Option<Stretch>, page: u32, row: u32, rows: u32, cause: Cause) -
 }
 
 /// A page that is gone through. Contracts see its number, how far its rows are gone through, the
-/// rows that are lost before the one that is due, whether a row that is found waits to be handed
-/// out, and the row that was found last, as it is handed out.
+/// rows that are lost before the next one, whether a row that is found waits to be returned, and
+/// the row that was found last, as it is returned.
 pub(crate) struct SalvagePage<'a> {
     page: u32,
     rows: SalvageRows<'a>,
-    /// The row of the page that is due.
+    /// The row of the next page.
     row: u32,
-    /// The rows that are lost before that one, and not handed out yet.
-    lost: Option<Stretch>,
-    /// Whether the row before that one is found, and not handed out yet.
+    /// The rows that are lost before that one, and not returned yet.
+    lost: Option<LostRows>,
+    /// Whether the row before that one is found, and not returned yet.
     waits: bool,
-    /// Where colours are exchanged, if they are: the row that was found last, as it is handed out.
+    /// Where colours are exchanged, if they are: the row that was found last, as it is returned.
     exchanged: Option<Row>,
 }
 
@@ -53,7 +53,7 @@ impl<'a> SalvagePage<'a> {
     // requires form { form_of strips.directory ≡ Ok form }
     // requires limits { IsPageForm form }
     // requires count { strips.count ≡ form.strips }
-    // ensures { IfOk result (Spec.IsPageBegun strips.entry.directory form page) }
+    // ensures { IfOk result (Spec.IsPageStarted strips.entry.directory form page) }
     pub fn open(
         alloc: Global,
         page: u32,
@@ -72,7 +72,7 @@ impl<'a> SalvagePage<'a> {
         })
     }
 
-    /// Shows the row that was found last as it is handed out.
+    /// Shows the row that was found last as it is returned.
     // ensures { Spec.Shows self.old self.new }
     fn show(&mut self) {
         if let Some(row) = &mut self.exchanged {
@@ -80,7 +80,7 @@ impl<'a> SalvagePage<'a> {
         }
     }
 
-    /// The row before the one that is due, as it is handed out.
+    /// The row before the next one, as it is returned.
     // requires { 0 < Spec.row_after self.now }
     // ensures { result ≡ Spec.item_before self.now }
     fn item(&self) -> SalvageItem {
@@ -90,8 +90,8 @@ impl<'a> SalvagePage<'a> {
         })
     }
 
-    /// Hands out what is next on the page, or `None` where nothing is left of it.
-    // ensures { Spec.HandsOutOfPage self.old result self.new }
+    /// Returns what is next on the page, or `None` where nothing is left of it.
+    // ensures { Spec.YieldsOfPage self.old result self.new }
     pub fn next_item(&mut self) -> Option<SalvageItem> {
         if self.waits {
             self.waits = false;
@@ -99,7 +99,7 @@ impl<'a> SalvagePage<'a> {
         }
         while let Some(part) = self.rows.next_part() {
             match part {
-                PagePart::Found => {
+                SalvagedPart::Found => {
                     self.row += 1;
                     self.show();
                     let Some(stretch) = self.lost else {
@@ -109,7 +109,7 @@ impl<'a> SalvagePage<'a> {
                     self.waits = true;
                     return Some(SalvageItem::Lost(stretch));
                 }
-                PagePart::Lost { rows, cause } => {
+                SalvagedPart::Lost { rows, cause } => {
                     self.lost = Some(longer(self.lost, self.page, self.row, rows, cause));
                     self.row += rows;
                 }
@@ -130,12 +130,12 @@ impl<'a> SalvagePage<'a> {
     }
 
     /// Something is left of the page, or nothing: it computes nothing.
-    // ensures { (items : List LeftItem) × Spec.IsLeftOnPage self.now items }
-    pub fn items_are_left(&self) {
-        self.rows.rows_are_left();
+    // ensures { (items : List SalvagedItem) × Spec.IsLeftOnPage self.now items }
+    pub fn lemma_items_left(&self) {
+        self.rows.lemma_rows_left();
     }
 
-    /// The row that was found last, as it is handed out.
+    /// The row that was found last, as it is returned.
     // ensures { result.now ≡ self.now.shown }
     pub fn row(&self) -> &Row {
         match &self.exchanged {

@@ -3,7 +3,7 @@
 
 use fax_bits::Memory;
 use fax_files::{Cause, FileFault, PageForm, Strips};
-use fax_page::{PlaceFault, RowBefore, SalvageReader, Salvaged, StripFault};
+use fax_page::{PlaceFault, ReferenceRow, SalvageReader, Salvaged, StripFault};
 use fax_rows::Row;
 use kit_std::alloc::Global;
 use kit_std::marker::Model;
@@ -11,7 +11,7 @@ use kit_std::marker::Model;
 /// What became of the next row of a page, or of a strip with no file around it, and of those that
 /// are lost with it.
 #[derive(Clone, Copy, Debug, PartialEq, Eq)]
-pub enum PagePart {
+pub enum SalvagedPart {
     /// The row is found.
     Found,
     /// So many rows are lost, the first of them for this cause.
@@ -20,7 +20,7 @@ pub enum PagePart {
 
 /// Where a row is read in its strip: it is lent.
 #[derive(Clone, Copy)]
-pub struct PlaceInStrip<'a> {
+pub struct StripPositionRef<'a> {
     /// How many bits stand before it, of those that the file has of the strip.
     pub bits: u32,
     /// The row before it, which is found, as it is coded.
@@ -52,14 +52,14 @@ fn cause_of(fault: StripFault, whole: bool) -> Cause {
 /// What became of the next row of a page, by what became of it in its strip, which lies wholly in
 /// the file or does not.
 // ensures { result ≡ Spec.part_of salvaged whole }
-pub(crate) fn part_of(salvaged: Salvaged, whole: bool) -> PagePart {
+pub(crate) fn part_of(salvaged: Salvaged, whole: bool) -> SalvagedPart {
     match salvaged {
-        Salvaged::Found => PagePart::Found,
-        Salvaged::Lost { fault, rows } => PagePart::Lost {
+        Salvaged::Found => SalvagedPart::Found,
+        Salvaged::Lost { fault, rows } => SalvagedPart::Lost {
             rows,
             cause: cause_of(fault, whole),
         },
-        Salvaged::Unended { rows } => PagePart::Lost {
+        Salvaged::Unterminated { rows } => SalvagedPart::Lost {
             rows,
             cause: cause_of(StripFault::MissingEol, whole),
         },
@@ -72,7 +72,7 @@ fn is_found(salvaged: Salvaged) -> bool {
     match salvaged {
         Salvaged::Found => true,
         Salvaged::Lost { .. } => false,
-        Salvaged::Unended { .. } => false,
+        Salvaged::Unterminated { .. } => false,
     }
 }
 
@@ -115,18 +115,18 @@ impl<'a> SalvageRows<'a> {
     // requires form { form_of strips.directory ≡ Ok form }
     // requires limits { IsPageForm form }
     // requires count { strips.count ≡ form.strips }
-    // requires due { row < form.rows }
+    // requires upcoming { row < form.rows }
     // ensures ok { IfOk result
-    //     (Spec.IsBegunAt strips.entry.directory form row bits before.entry) }
+    //     (Spec.StartsAt strips.entry.directory form row bits before.entry) }
     // ensures err { IfErr result
-    //     (Spec.IsNotBegunAt strips.entry.directory form row bits before.entry) }
+    //     (Spec.IsNotStartedAt strips.entry.directory form row bits before.entry) }
     pub fn begin_at(
         alloc: Global,
         form: PageForm,
         strips: Strips<'a>,
         row: u32,
         bits: u32,
-        before: RowBefore,
+        before: ReferenceRow,
     ) -> Result<Self, PlaceFault> {
         let strip = row / form.rows_per_strip;
         let row_in_strip = row - strip * form.rows_per_strip;
@@ -161,9 +161,9 @@ impl<'a> SalvageRows<'a> {
         self.reader.restart(bytes, rows);
     }
 
-    /// What becomes of the row that is due, or `None` after the page's last one.
+    /// What becomes of the next row, or `None` after the page's last one.
     // ensures { Spec.IsPart self.old result self.new }
-    pub fn next_part(&mut self) -> Option<PagePart> {
+    pub fn next_part(&mut self) -> Option<SalvagedPart> {
         self.enter_strip();
         let Some(salvaged) = self.reader.next_salvaged() else {
             return None;
@@ -172,17 +172,17 @@ impl<'a> SalvageRows<'a> {
         Some(part_of(salvaged, self.whole))
     }
 
-    /// Where the row that is due is read in its strip, or `None` where the strip is gone through:
-    /// then the next one begins with that row, if the page has more.
+    /// Where the next row is read in its strip, or `None` where the strip is gone through: then the
+    /// next one begins with that row, if the page has more.
     // requires { length self.now.directory.file ≤ 536870911 }
     // ensures { Spec.IsPlaceOf self.now result }
-    pub fn place(&self) -> Option<PlaceInStrip<'_>> {
+    pub fn place(&self) -> Option<StripPositionRef<'_>> {
         if self.reader.row() == self.form.strip_form(self.strip).rows {
             return None;
         }
         let (bytes, _whole) = bytes_left(&self.strips, self.strip);
-        let bits = 8 * bytes.len() as u64 - self.reader.bits_due();
-        Some(PlaceInStrip {
+        let bits = 8 * bytes.len() as u64 - self.reader.bits_remaining();
+        Some(StripPositionRef {
             bits: bits as u32,
             reference: self.reader.reference(),
         })
@@ -197,7 +197,7 @@ impl<'a> SalvageRows<'a> {
 
     /// Rows are left of the page, or none: it computes nothing.
     // ensures { (rows : List PageRow) × Spec.AreRowsLeft self.now rows }
-    pub fn rows_are_left(&self) {
+    pub fn lemma_rows_left(&self) {
         let _row = self.reader.row();
     }
 

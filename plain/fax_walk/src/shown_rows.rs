@@ -1,19 +1,19 @@
 // Made by tools/plain-rust of crates/fax_walk/src/shown_rows.rt: change that.
-//! The rows of a page that are left, as they are handed out.
+//! The rows of a page that are left, as they are returned.
 
 use crate::open_page::{row_for_exchange, set_exchanged};
-use crate::salvage_rows::{PagePart, PlaceInStrip, SalvageRows};
+use crate::salvage_rows::{SalvageRows, SalvagedPart, StripPositionRef};
 use fax_bits::Memory;
 use fax_files::{PageForm, Strips};
-use fax_page::{PlaceFault, RowBefore};
+use fax_page::{PlaceFault, ReferenceRow};
 use fax_rows::Row;
 use kit_std::alloc::Global;
 use kit_std::marker::Model;
 
-/// The rows of a page that are gone through, with the row that was found last, as it is handed out.
+/// The rows of a page that are gone through, with the row that was found last, as it is returned.
 pub(crate) struct ShownRows<'a> {
     rows: SalvageRows<'a>,
-    /// Where colours are exchanged, if they are: the row that was found last, as it is handed out.
+    /// Where colours are exchanged, if they are: the row that was found last, as it is returned.
     exchanged: Option<Row>,
 }
 
@@ -24,7 +24,7 @@ impl<'a> ShownRows<'a> {
     // requires form { form_of strips.directory ≡ Ok form }
     // requires limits { IsPageForm form }
     // requires count { strips.count ≡ form.strips }
-    // ensures { IfOk result (λ s. Left.IsBeforeRows strips.entry.directory form s.rows) }
+    // ensures { IfOk result (λ s. RowSource.IsBeforeRows strips.entry.directory form s.rows) }
     pub fn open(alloc: Global, form: PageForm, strips: Strips<'a>) -> Result<Self, Memory> {
         let exchanged = row_for_exchange(alloc, &form)?;
         let rows = SalvageRows::begin(alloc, form, strips)?;
@@ -36,18 +36,18 @@ impl<'a> ShownRows<'a> {
     // requires form { form_of strips.directory ≡ Ok form }
     // requires limits { IsPageForm form }
     // requires count { strips.count ≡ form.strips }
-    // requires due { row < form.rows }
+    // requires upcoming { row < form.rows }
     // ensures ok { IfOk result
-    //     (λ s. Left.IsBegunAt strips.entry.directory form row bits before.entry s.rows) }
+    //     (λ s. RowSource.StartsAt strips.entry.directory form row bits before.entry s.rows) }
     // ensures err { IfErr result
-    //     (Left.IsNotBegunAt strips.entry.directory form row bits before.entry) }
+    //     (RowSource.IsNotStartedAt strips.entry.directory form row bits before.entry) }
     pub fn open_at(
         alloc: Global,
         form: PageForm,
         strips: Strips<'a>,
         row: u32,
         bits: u32,
-        before: RowBefore,
+        before: ReferenceRow,
     ) -> Result<Self, PlaceFault> {
         let rows = SalvageRows::begin_at(alloc, form, strips, row, bits, before)?;
         match row_for_exchange(alloc, &form) {
@@ -56,9 +56,9 @@ impl<'a> ShownRows<'a> {
         }
     }
 
-    /// What becomes of the row that is due, or `None` after the page's last one.
+    /// What becomes of the next row, or `None` after the page's last one.
     // ensures { Spec.IsShownPart self.old result self.new }
-    pub fn next_part(&mut self) -> Option<PagePart> {
+    pub fn next_part(&mut self) -> Option<SalvagedPart> {
         let part = self.rows.next_part();
         if let Some(row) = &mut self.exchanged {
             set_exchanged(row, self.rows.reference());
@@ -66,14 +66,14 @@ impl<'a> ShownRows<'a> {
         part
     }
 
-    /// Where the row that is due is read in its strip, as `SalvageRows::place` has it.
+    /// Where the next row is read in its strip, as `SalvageRows::place` has it.
     // requires { length self.now.rows.directory.file ≤ 536870911 }
-    // ensures { Left.IsPlaceOf self.now.rows result }
-    pub fn place(&self) -> Option<PlaceInStrip<'_>> {
+    // ensures { RowSource.IsPlaceOf self.now.rows result }
+    pub fn place(&self) -> Option<StripPositionRef<'_>> {
         self.rows.place()
     }
 
-    /// The row that was found last, as it is handed out.
+    /// The row that was found last, as it is returned.
     // ensures pels { result.now ≡ self.now.shown }
     // ensures width { length result.now ≡ self.now.rows.form.width }
     pub fn row(&self) -> &Row {
@@ -84,8 +84,8 @@ impl<'a> ShownRows<'a> {
     }
 
     /// Rows are left of the page, or none: it computes nothing.
-    // ensures { (rows : List PageRow) × Left.AreRowsLeft self.now.rows rows }
-    pub fn rows_are_left(&self) {
-        self.rows.rows_are_left();
+    // ensures { (rows : List PageRow) × RowSource.AreRowsLeft self.now.rows rows }
+    pub fn lemma_rows_left(&self) {
+        self.rows.lemma_rows_left();
     }
 }

@@ -121,21 +121,6 @@ pub unsafe extern "C" fn faxpages_place_parse(
 ///
 /// The header says what the caller owes.
 #[no_mangle]
-pub unsafe extern "C" fn faxpages_end_pages(
-    file: *mut u8,
-    file_len: usize,
-    written: *mut FaxWritten,
-) -> u32 {
-    // SAFETY: as above.
-    unsafe {
-        calls::faxpages_end_pages(kit_std::c::items_mut(file, file_len), &mut *written)
-    }
-}
-
-/// # Safety
-///
-/// The header says what the caller owes.
-#[no_mangle]
 pub unsafe extern "C" fn faxpages_convert(
     file: *const u8,
     file_len: usize,
@@ -276,6 +261,21 @@ pub unsafe extern "C" fn faxpages_page(
             stride,
             &mut *told,
         )
+    }
+}
+
+/// # Safety
+///
+/// The header says what the caller owes.
+#[no_mangle]
+pub unsafe extern "C" fn faxpages_end_pages(
+    file: *mut u8,
+    file_len: usize,
+    written: *mut FaxWritten,
+) -> u32 {
+    // SAFETY: as above.
+    unsafe {
+        calls::faxpages_end_pages(kit_std::c::items_mut(file, file_len), &mut *written)
     }
 }
 

@@ -11,12 +11,12 @@ bits_ahead order bytes window =
     first_bits window.count window.bits ++ bits order (drop window.at bytes)
 
 -- how many bits stand before those of a window
-abbrev pub place_before : Window → ℕ
-place_before window = 8 * window.at - window.count
+abbrev pub bit_offset : Window → ℕ
+bit_offset window = 8 * window.at - window.count
 
 -- the window's bits are those from its place on, which lies in the bytes
 pub record IsAhead (order : FillOrder) (bytes : List ℕ) (window : Window) : Type 0 where
   pub within : window.at ≤ length bytes
   pub before : window.count ≤ 8 * window.at
   pub counted : length bytes ≤ 4294967295
-  pub bits_are : bits_ahead order bytes window ≡ drop (place_before window) (bits order bytes)
+  pub bits_are : bits_ahead order bytes window ≡ drop (bit_offset window) (bits order bytes)

@@ -2,19 +2,19 @@
 use Rattle.std.specs.Prelude.{◌≡◌, ℕ, ◌<◌, ◌^◌, Bool, List, ◌++◌, length, flat_map, Contains}
 use Rattle.fax_bits.specs.declared.codes.CodeEntry.{CodeEntry}
 use Rattle.fax_bits.specs.declared.mode_codes.ModeCode.TheVariants.{Horizontal}
-use Rattle.fax_bits.specs.declared.pairs.Pair.{Pair}
-use Rattle.fax_bits.specs.Bits.{Colour, White, Black, BeginsWith}
+use Rattle.fax_bits.specs.declared.pairs.RunPair.{RunPair}
+use Rattle.fax_bits.specs.Bits.{Colour, White, Black, StartsWith}
 use Rattle.fax_bits.specs.Codes.{bits_of}
 use Rattle.fax_bits.specs.Written.{run_bits, mode_bits}
 use Rattle.fax_bits.specs.views.Source.{Source, KeepsEnd}
 use Rattle.fax_bits.specs.declared.verticals.Verticals.{Verticals}
-use Rattle.fax_bits.specs.views.Verticals.{AreFew, raises_of, vertical}
+use Rattle.fax_bits.specs.views.Verticals.{AreFew, biased_offsets_of, vertical}
 
 -- the first of the bits, `len` of them and at least one, mean what is found
 pub record IsBegun {F : Type 0} (means : List Bool → F → Type 0) (b : List Bool) (len : ℕ)
     (found : F) : Type 0 where
   pub front : List Bool
-  pub ahead : BeginsWith b front
+  pub ahead : StartsWith b front
   pub long : length front ≡ len
   pub some : 0 < len
   pub meaning : means front found
@@ -24,9 +24,9 @@ pub record IsLookedUp {F : Type 0} (means : List Bool → F → Type 0) (old : S
     (new : Source) : Type 0 where
   pub front : List Bool
   pub meaning : means front found
-  pub taken : old.left ≡ front ++ new.left
+  pub taken : old.remaining ≡ front ++ new.remaining
   pub same_end : KeepsEnd old new
-  pub shorter : length new.left < length old.left
+  pub shorter : length new.remaining < length old.remaining
 
 -- the bits are the code of some entry that has this meaning (T.4, section 4.1.1)
 pub record IsCode {M : Type 0} (table : List (CodeEntry M)) (b : List Bool)
@@ -43,7 +43,7 @@ pub record IsOneRun (colour : Colour) (b : List Bool) (pels : ℕ) : Type 0 wher
 
 -- the bits are those of a white run and of the black one after it; each has pels, and is one
 -- terminating code (T.4, section 4.1.1)
-pub record AreTwoRuns (b : List Bool) (pair : Pair) : Type 0 where
+pub record AreTwoRuns (b : List Bool) (pair : RunPair) : Type 0 where
   pub white : 0 < pair.white
   pub black : 0 < pair.black
   pub short_white : pair.white < 64
@@ -51,7 +51,7 @@ pub record AreTwoRuns (b : List Bool) (pair : Pair) : Type 0 where
   pub spelled : b ≡ run_bits White pair.white ++ run_bits Black pair.black
 
 -- the bits are the code of horizontal mode and those of such a pair (T.4, section 4.2.1.3.2)
-pub record IsHorizontalPair (b : List Bool) (pair : Pair) : Type 0 where
+pub record IsHorizontalPair (b : List Bool) (pair : RunPair) : Type 0 where
   pub runs : List Bool
   pub are : AreTwoRuns runs pair
   pub spelled : b ≡ mode_bits Horizontal ++ runs
@@ -59,4 +59,4 @@ pub record IsHorizontalPair (b : List Bool) (pair : Pair) : Type 0 where
 -- the bits are the codes of these vertical modes, one after another (T.4, table 4)
 pub record AreVerticals (b : List Bool) (found : Verticals) : Type 0 where
   pub few : AreFew found
-  pub spelled : b ≡ flat_map (λ raised. mode_bits (vertical raised)) (raises_of found)
+  pub spelled : b ≡ flat_map (λ raised. mode_bits (vertical raised)) (biased_offsets_of found)

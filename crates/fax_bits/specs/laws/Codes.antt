@@ -15,7 +15,7 @@ use Rattle.fax_bits.specs.declared.run_codes.RunCode.TheVariants.{Terminating, M
 use Rattle.fax_bits.specs.Bits.{byte_bits, bits}
 use Rattle.fax_bits.specs.Written.{run_bits, mode_bits}
 use Rattle.fax_bits.specs.Bits.{bits_number, packed}
-use Rattle.fax_bits.specs.Codes.{Takes, IsRun, read_code}
+use Rattle.fax_bits.specs.Codes.{Decodes, IsRun, read_code}
 use Rattle.fax_bits.specs.Reading.{read}
 use Rattle.std.specs.Prelude.{◌↔◌}
 use Rattle.fax_bits.specs.views.Codes.{IsWritten}
@@ -28,7 +28,7 @@ bit_in_byte LsbFirst place = place
 
 -- bytes have eight bits each, and each bit stands in its byte, at a place that the fill order says
 -- (TIFF 6.0, FillOrder)
-pub record AreBitsByPlace : Type 0 where
+pub record AreBitsByIndex : Type 0 where
   pub count : (order : FillOrder) (bytes : List ℕ) → length (bits order bytes) ≡ 8 * length bytes
   pub of_byte : (order : FillOrder) (byte i : ℕ) → i < 8
       → slice_index_or (byte_bits order byte) i false ≡ (bit_at byte (bit_in_byte order i) == 1)
@@ -73,7 +73,7 @@ HasOneAnswer {B} {A} IsAnswer =
 -- a code that is taken has at least one bit (T.4, tables 2, 3a, 3b and 4)
 abbrev pub TakesBits : {M : Type 0} → List (CodeEntry M) → Type 0
 TakesBits {M} table =
-    (b : List Bool) (meaning : M) (rest : List Bool) → Takes table b meaning rest
+    (b : List Bool) (meaning : M) (rest : List Bool) → Decodes table b meaning rest
     → length rest < length b
 
 -- bits are read in one way: they begin with one answer, which one rest follows, or they have one
@@ -101,7 +101,7 @@ pub record IsOne {A E : Type 0} (holds : List A → E → Type 0) : Type 0 where
 pub record ReadsOneWay {M : Type 0} (table : List (CodeEntry M)) : Type 0 where
   pub takes_bits : TakesBits table
   pub code : (b : List Bool) (meaning : M) (rest : List Bool)
-      → Takes table b meaning rest ↔ (read_code table b ≡ read meaning rest)
+      → Decodes table b meaning rest ↔ (read_code table b ≡ read meaning rest)
 
 -- the codes of runs of a colour are read in one way, and bits begin with at most one run of it
 -- (T.4, section 4.1.1, and tables 2, 3a and 3b)
@@ -125,15 +125,15 @@ RunBitsAreOneRun =
 -- (T.4, section 4.1.1)
 pub record ChosenCodesAreWritten : Type 0 where
   pub short : (colour : Colour) (b : List Bool) (n : ℕ) (rest : List Bool)
-      → Takes (run_table colour) b (Terminating n) rest → b ≡ run_bits colour n ++ rest
+      → Decodes (run_table colour) b (Terminating n) rest → b ≡ run_bits colour n ++ rest
   pub long : (colour : Colour) (b : List Bool) (m n : ℕ) (middle rest : List Bool)
-      → Takes (run_table colour) b (MakeUp m) middle
-      → Takes (run_table colour) middle (Terminating n) rest → b ≡ run_bits colour (m + n) ++ rest
+      → Decodes (run_table colour) b (MakeUp m) middle
+      → Decodes (run_table colour) middle (Terminating n) rest → b ≡ run_bits colour (m + n) ++ rest
   pub longest : (colour : Colour) (b : List Bool) (n : ℕ) (middle rest : List Bool)
-      → Takes (run_table colour) b (MakeUp 2560) middle
+      → Decodes (run_table colour) b (MakeUp 2560) middle
       → middle ≡ run_bits colour n ++ rest → b ≡ run_bits colour (2560 + n) ++ rest
 
 -- a mode that is written is read again, whatever follows it (T.4, section 4.2.1.3.2 and table 4)
 abbrev pub ModeBitsAreRead : Type 0
 ModeBitsAreRead = (mode : ModeCode) (more : List Bool) → IsWritten mode
-    → Takes modes (mode_bits mode ++ more) mode more
+    → Decodes modes (mode_bits mode ++ more) mode more

@@ -8,7 +8,7 @@ use Rattle.fax_bits.specs.declared.codes.CodeEntry.{CodeEntry}
 use Rattle.fax_bits.specs.declared.codes.TheConstants.{LONGEST_CODE}
 use Rattle.fax_bits.specs.declared.mode_codes.ModeCode.{ModeCode}
 use Rattle.fax_bits.specs.declared.mode_codes.ModeCode.TheVariants.{Vertical, Extension}
-use Rattle.fax_bits.specs.Bits.{BeginsWith}
+use Rattle.fax_bits.specs.Bits.{StartsWith}
 use Rattle.fax_bits.specs.Codes.{bits_of}
 
 -- each code has 1 to 13 bits, and its number no more than these (T.4, tables 2, 3a, 3b and 4)
@@ -33,7 +33,7 @@ pub record HasCodeAhead {M : Type 0} (table : List (CodeEntry M)) (b : List Bool
   pub listed : Contains table entry
   pub length : entry.len ≡ len
   pub means : entry.meaning ≡ meaning
-  pub ahead : BeginsWith b (bits_of entry)
+  pub ahead : StartsWith b (bits_of entry)
 
 -- a mode that is written: no extension, and a1 at most 3 pels from b1
 -- (T.4, section 4.2.1.3.2 and table 4)

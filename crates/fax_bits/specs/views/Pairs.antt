@@ -1,15 +1,15 @@
 -- A white run and the black one after it, as they are read, and any two runs as they are written.
 use Rattle.std.specs.Prelude.{◌≡◌, ℕ, ◌<◌, Bool, List, ◌++◌}
 use Rattle.fax_bits.specs.declared.mode_codes.ModeCode.TheVariants.{Horizontal}
-use Rattle.fax_bits.specs.declared.pairs.Pair.{Pair}
+use Rattle.fax_bits.specs.declared.pairs.RunPair.{RunPair}
 use Rattle.fax_bits.specs.Bits.{Colour, White, Black}
-use Rattle.fax_bits.specs.Codes.{IsRun, Takes}
+use Rattle.fax_bits.specs.Codes.{IsRun, Decodes}
 use Rattle.fax_bits.specs.Tables.{modes}
 use Rattle.fax_bits.specs.Written.{run_bits}
 
 -- the bits begin with a white run and a black one, both as they are written and with pels, and the
 -- rest follows them (T.4, section 4.1.1)
-pub record IsPairRead (b : List Bool) (pair : Pair) (rest : List Bool) : Type 0 where
+pub record IsPairRead (b : List Bool) (pair : RunPair) (rest : List Bool) : Type 0 where
   pub middle : List Bool
   pub white : IsRun White b pair.white middle
   pub black : IsRun Black middle pair.black rest
@@ -20,9 +20,9 @@ pub record IsPairRead (b : List Bool) (pair : Pair) (rest : List Bool) : Type 0 
 
 -- the bits begin with the code of horizontal mode and then with such a pair (T.4, section
 -- 4.2.1.3.2)
-pub record IsHorizontalPairRead (b : List Bool) (pair : Pair) (rest : List Bool) : Type 0 where
+pub record IsHorizontalPairRead (b : List Bool) (pair : RunPair) (rest : List Bool) : Type 0 where
   pub runs : List Bool
-  pub mode : Takes modes b Horizontal runs
+  pub mode : Decodes modes b Horizontal runs
   pub pair_read : IsPairRead runs pair rest
 
 -- the bits of a run of a colour, and of a run of the other colour after it (T.4, section 4.1.1)

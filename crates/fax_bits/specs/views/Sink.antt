@@ -23,10 +23,10 @@ pub record AppendsPrefix (old : Sink) (more : List Bool) (new : Sink) : Type 0 w
   pub parts : more ≡ done ++ missing
 
 -- the bits stand after those that were there, but for the last of them, which are left
-pub record AppendsAllBut (old : Sink) (more left : List Bool) (new : Sink) : Type 0 where
+pub record AppendsAllBut (old : Sink) (more remaining : List Bool) (new : Sink) : Type 0 where
   pub done : List Bool
   pub appended : Appends old done new
-  pub parts : more ≡ done ++ left
+  pub parts : more ≡ done ++ remaining
 
 -- some of the codes of a run, from the first on and each of them whole, stand after the bits that
 -- were there

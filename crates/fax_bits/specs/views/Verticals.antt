@@ -3,7 +3,7 @@ use Rattle.std.specs.Prelude.{◌≡◌, ℕ, ◌<◌, ◌≤◌, ℤ, pos, ◌-
 use Rattle.fax_bits.specs.declared.mode_codes.ModeCode.{ModeCode}
 use Rattle.fax_bits.specs.declared.mode_codes.ModeCode.TheVariants.{Vertical}
 use Rattle.fax_bits.specs.declared.verticals.Verticals.{Verticals}
-use Rattle.fax_bits.specs.Codes.{Spells}
+use Rattle.fax_bits.specs.Codes.{DecodesAll}
 use Rattle.fax_bits.specs.Tables.{modes}
 
 -- how far right of b1 a1 is, which is so far right of the pel three left of b1
@@ -15,17 +15,17 @@ abbrev pub vertical : ℕ → ModeCode
 vertical raised = Vertical (shift raised)
 
 -- the modes that are looked up
-abbrev pub raises_of : Verticals → List ℕ
-raises_of found = take found.count found.raises
+abbrev pub biased_offsets_of : Verticals → List ℕ
+biased_offsets_of found = take found.count found.biased_offsets
 
 -- one to four vertical modes of table 4
 pub record AreFew (found : Verticals) : Type 0 where
   pub some : 0 < found.count
   pub few : found.count ≤ 4
-  pub lanes : length found.raises ≡ 4
-  pub near : All (λ raised. raised < 7) found.raises
+  pub lanes : length found.biased_offsets ≡ 4
+  pub near : All (λ raised. raised < 7) found.biased_offsets
 
 -- the bits begin with the codes of these modes, and the rest follows them (T.4, table 4)
 pub record AreVerticalsRead (b : List Bool) (found : Verticals) (rest : List Bool) : Type 0 where
   pub few : AreFew found
-  pub spelled : Spells modes b (map vertical (raises_of found)) rest
+  pub spelled : DecodesAll modes b (map vertical (biased_offsets_of found)) rest

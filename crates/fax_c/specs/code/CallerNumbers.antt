@@ -24,7 +24,7 @@ HasEols Pbm false = Unit {0}
 HasEols Mmr false = Unit {0}
 HasEols target false = ⊥
 
--- the number that is answered where a file is not converted
+-- the number that is returned where a file is not converted
 abbrev pub refusal_status : ConvertFault → ℕ
 refusal_status Memory = 4
 refusal_status fault = 2

@@ -8,15 +8,15 @@ use Rattle.fax_page.specs.declared.StripFault.TheVariants.{DataEnds}
 use Rattle.fax_page.specs.declared.StripForm.{StripForm}
 use Rattle.fax_files.specs.declared.Cause.TheVariants.{Strip}
 use Rattle.fax_walk.specs.declared.end.End.TheVariants.{Fault, Outside}
-use Rattle.fax_c.specs.declared.filled.Filled.{Filled}
-use Rattle.fax_c.specs.declared.filled.Stop.{Stop}
-use Rattle.fax_c.specs.declared.filled.Stop.TheVariants.{Ended}
+use Rattle.fax_c.specs.declared.fill.Filled.{Filled}
+use Rattle.fax_c.specs.declared.fill.Stop.{Stop}
+use Rattle.fax_c.specs.declared.fill.Stop.TheVariants.{Ended}
 use Rattle.fax_c.specs.declared.places.FaxPlace.{FaxPlace}
 use Rattle.fax_c.specs.declared.told.FaxTold.{FaxTold}
 use Rattle.fax_c.specs.Told.{IsToldWith, no_fault}
 use Rattle.fax_c.specs.views.StripParts.{MayChange}
 
--- a place may be one of a strip where more bytes follow: a row is due there, after these bytes
+-- a place may be one of a strip where more bytes follow: a row is expected there, after these bytes
 abbrev pub IsAhead : StripForm → List ℕ → FaxPlace → Type 0
 IsAhead form strip place =
     (place.row < form.rows) × (8 * length strip < place.bits) × (place.bits ≤ 8 * 536870911)
@@ -27,17 +27,17 @@ StopMayChange form strip place (Ended (Fault page row (Strip fault))) = fault �
 StopMayChange form strip place (Ended Outside) = IsAhead form strip place
 StopMayChange form strip place stop = ⊥
 
--- where rows that nobody counted end so, before these bits, they may end otherwise
+-- where rows of a strip of unknown height end so, before these bits, they may end otherwise
 abbrev pub EndMayChange : Coding → List Bool → Option RowsEnd → Type 0
-EndMayChange coding left None = ⊥
-EndMayChange coding left (Some end) = MayChange coding left end
+EndMayChange coding remaining None = ⊥
+EndMayChange coding remaining (Some end) = MayChange coding remaining end
 
--- what is told of a strip up to a place may be something else where more bytes follow
+-- what is reported of a strip up to a place may be something else where more bytes follow
 abbrev pub MayGoOn : StripForm → List ℕ → FaxPlace → Stop → Option RowsEnd → Type 0
 MayGoOn form strip place stop end =
     StopMayChange form strip place stop
     ⊎ EndMayChange form.coding (drop place.bits (bits form.order strip)) end
 
--- what was written is told, and that more is waited for
+-- what was written is reported, and that more is waited for
 abbrev pub IsMoreTold : Filled → FaxTold → ℕ → Type 0
 IsMoreTold filled = IsToldWith filled no_fault 10

@@ -10,13 +10,13 @@ use Rattle.fax_page.specs.Lines.{IsLine, white_row}
 use Rattle.fax_page.specs.Strip.{AreLines, coded_strip, most_rows}
 use Rattle.fax_page.specs.declared.StripFault.{StripFault}
 use Rattle.fax_page.specs.declared.RowsEnd.{RowsEnd}
-use Rattle.fax_page.specs.Uncounted.{EndsSo}
+use Rattle.fax_page.specs.Uncounted.{RowsEndAs}
 use Rattle.fax_page.specs.views.Strip.{IsStripForm}
 use Rattle.fax_files.specs.declared.Cause.TheVariants.{Strip}
-use Rattle.fax_walk.specs.declared.end.End.TheVariants.{Proper, Fault, Outside}
-use Rattle.fax_c.specs.declared.filled.Filled.{Filled}
-use Rattle.fax_c.specs.declared.filled.Stop.{Stop}
-use Rattle.fax_c.specs.declared.filled.Stop.TheVariants.{Done, Ended, Memory, NoRoom}
+use Rattle.fax_walk.specs.declared.end.End.TheVariants.{EndOfPages, Fault, Outside}
+use Rattle.fax_c.specs.declared.fill.Filled.{Filled}
+use Rattle.fax_c.specs.declared.fill.Stop.{Stop}
+use Rattle.fax_c.specs.declared.fill.Stop.TheVariants.{Done, Ended, Memory, NoRoom}
 use Rattle.fax_c.specs.declared.places.FaxPlace.{FaxPlace}
 use Rattle.fax_c.specs.declared.strip_form.FaxStrip.{FaxStrip}
 use Rattle.fax_c.specs.declared.told.FaxTold.{FaxTold}
@@ -39,17 +39,17 @@ pub record IsStripFormGiven (given : FaxStrip) (form : StripForm) : Type 0 where
 abbrev pub IsReadable : List ℕ → FaxStrip → StripForm → Type 0
 IsReadable strip given form = IsStripFormGiven given form × (length strip ≤ 536870911)
 
--- or in this one, whose rows nobody counted, 0 by the numbers: they may be as many as a strip has
+-- or in this one, of unknown height, 0 by the numbers: they may be as many as a strip has
 abbrev pub IsReadableUncounted : List ℕ → FaxStrip → StripForm → Type 0
 IsReadableUncounted strip given form =
     (given.rows ≡ 0) × IsReadable strip (record given { rows = most_rows }) form
 
--- a strip can be read in this form, of counted rows or of such as nobody counted
+-- a strip can be read in this form, of counted rows or those of unknown height
 abbrev pub IsReadableIn : List ℕ → FaxStrip → StripForm → Type 0
 IsReadableIn strip given form =
     IsReadable strip given form ⊎ IsReadableUncounted strip given form
 
--- where a row of a strip is due: its number, the bits before it, and the row before it
+-- where a row of a strip is expected: its number, the bits before it, and the row before it
 pub record StripPlace : Type 0 where
   pub row : ℕ
   pub bits : ℕ
@@ -63,9 +63,9 @@ pub record IsPlace (width : ℕ) (place : FaxPlace) (runs : List ℕ) (at : Stri
   pub reference : ((place.runs ≡ 0) × (at.reference ≡ white_row width))
       ⊎ (HasRuns place runs × (runs_of at.reference ≡ take place.runs runs))
 
--- a place of the caller's is this one, and inside the strip: a row is due there
-abbrev pub IsDueAt : StripForm → List ℕ → FaxPlace → List ℕ → StripPlace → Type 0
-IsDueAt form strip place runs at =
+-- a place of the caller's is this one, and inside the strip: a row is expected there
+abbrev pub IsUpcomingAt : StripForm → List ℕ → FaxPlace → List ℕ → StripPlace → Type 0
+IsUpcomingAt form strip place runs at =
     IsPlace form.width place runs at × (at.row < form.rows) × (at.bits ≤ 8 * length strip)
 
 -- from a place of these bits to another stand these rows, each over the row before it, and each
@@ -79,14 +79,14 @@ ReadsTo form all from (row ∷ rows) to =
 
 -- why a strip has no row after those that were read: a fault is in the way, or it has no more
 abbrev pub stop_in_strip : ℕ → ℕ → Option StripFault → Stop
-stop_in_strip page row None = Ended Proper
+stop_in_strip page row None = Ended EndOfPages
 stop_in_strip page row (Some fault) = Ended (Fault page row (Strip fault))
 
 -- why no row is read after a place: it has no room; or it has, and no more rows stand there
 abbrev pub StopsAt : StripForm → List Bool → StripPlace → ℕ → ℕ → ℕ → Stop → Type 0
-StopsAt form all to page stride left stop =
-    ((stop ≡ Done) × (left < stride))
-    ⊎ ((stride ≤ left) × (met : Option StripFault) × (stop ≡ stop_in_strip page to.row met)
+StopsAt form all to page stride remaining stop =
+    ((stop ≡ Done) × (remaining < stride))
+    ⊎ ((stride ≤ remaining) × (met : Option StripFault) × (stop ≡ stop_in_strip page to.row met)
     × AreLines form to.row to.reference (drop to.bits all) [] met (drop to.bits all))
 
 -- the rows from one place of a strip to another are written, each in so many bytes, and no more
@@ -117,10 +117,10 @@ IsPlaceAfter width count old old_runs place runs to =
 abbrev pub ReadsNone : StripForm → List ℕ → ℕ → FaxPlace → List ℕ → ℕ → Stop → Type 0
 ReadsNone form strip stride place runs room stop =
     ((stop ≡ NoRoom) × (HasRoom form stride room → ⊥))
-    ⊎ (HasRoom form stride room × (((stop ≡ Ended Proper) × (place.row ≡ form.rows))
+    ⊎ (HasRoom form stride room × (((stop ≡ Ended EndOfPages) × (place.row ≡ form.rows))
     ⊎ ((stop ≡ Ended Outside) × (place.row ≢ form.rows)
-    × ((at : StripPlace) → IsDueAt form strip place runs at → ⊥))
-    ⊎ ((stop ≡ Memory) × (at : StripPlace) × IsDueAt form strip place runs at)))
+    × ((at : StripPlace) → IsUpcomingAt form strip place runs at → ⊥))
+    ⊎ ((stop ≡ Memory) × (at : StripPlace) × IsUpcomingAt form strip place runs at)))
 
 -- what is asked of a strip: its bytes, the numbers of its form, and how many bytes a row has
 pub record AskedStrip : Type 0 where
@@ -139,7 +139,7 @@ pub record StripMemory : Type 0 where
 abbrev pub ReadsOn : StripForm → List ℕ → ℕ → StripMemory → Filled → StripMemory → Type 0
 ReadsOn form strip stride old filled new =
     (HasRoom form stride (length old.raster) × (from : StripPlace) × (to : StripPlace)
-    × IsDueAt form strip old.place old.runs from
+    × IsUpcomingAt form strip old.place old.runs from
     × AreStripRows form (bits form.order strip) old.place.page stride from old.raster filled to
     new.raster × IsPlaceAfter form.width filled.count old.place old.runs new.place new.runs to)
     ⊎ (ReadsNone form strip stride old.place old.runs (length old.raster) filled.stop
@@ -148,30 +148,31 @@ ReadsOn form strip stride old filled new =
 
 -- what of the strip itself stopped its rows, if it did: a fault is in the way, or it has no more
 abbrev pub met_in_strip : Stop → Option (Option StripFault)
-met_in_strip (Ended Proper) = Some None
+met_in_strip (Ended EndOfPages) = Some None
 met_in_strip (Ended (Fault page row (Strip fault))) = Some (Some fault)
 met_in_strip stop = None
 
--- how rows that nobody counted end at a place, where the strip itself stopped them; else None
+-- how the rows of a strip of unknown height end at a place, where the strip itself stopped them;
+-- else None
 abbrev pub IsEndAt : FaxStrip → StripForm → List ℕ → FaxPlace → Stop → Option RowsEnd → Type 0
 IsEndAt given form strip place stop None = (0 < given.rows) ⊎ (met_in_strip stop ≡ None)
 IsEndAt given form strip place stop (Some end) =
     (given.rows ≡ 0) × (met : Option StripFault) × (met_in_strip stop ≡ Some met)
-    × EndsSo form.coding place.row (drop place.bits (bits form.order strip)) met end
+    × RowsEndAs form.coding place.row (drop place.bits (bits form.order strip)) met end
 
--- what was written is told, and that rows that nobody counted end so at a place
+-- what was written is reported, and that rows of a strip of unknown height end so at a place
 abbrev pub IsRowsEndTold : Filled → FaxPlace → RowsEnd → FaxTold → ℕ → Type 0
 IsRowsEndTold filled place end =
     IsToldWith filled (end_fault place.page place.row end) (end_status end)
 
--- what was written is told, and how the rows end at a place, if that is to be told
+-- what was written is reported, and how the rows end at a place, if that is to be reported
 abbrev pub IsReadTold : Filled → FaxPlace → Option RowsEnd → FaxTold → ℕ → Type 0
 IsReadTold filled place None told status = IsTold filled told status
 IsReadTold filled place (Some end) told status = IsRowsEndTold filled place end told status
 
--- the rows of a strip from a place on are read and told, counted ones or such as nobody counted; or
--- it can be read in no form of these numbers, or not all runs of any row have room, and nothing is
--- changed
+-- the rows of a strip from a place on are read and reported, counted ones or those of unknown
+-- height; or it can be read in no form of these numbers, or not all runs of any row have room, and
+-- nothing is changed
 abbrev pub TellsStripRows : AskedStrip → StripMemory → StripMemory → FaxTold → FaxTold → ℕ → Type 0
 TellsStripRows asked old new old_told told status =
     ((form : StripForm) × IsReadableIn asked.strip asked.form form
@@ -190,8 +191,8 @@ IsCodable asked form =
     × HoldsRaster (length asked.raster) form.width form.rows asked.stride
 
 -- the rows of a raster are coded as a strip, which is written where it has room, and its length
--- told; or memory was refused; or the numbers are no form or the raster is too short; then nothing
--- is written
+-- reported; or memory was refused; or the numbers are no form or the raster is too short; then
+-- nothing is written
 abbrev pub TellsStrip : AskedRaster FaxStrip → List ℕ → List ℕ → ℕ → ℕ → Type 0
 TellsStrip asked old new len status =
     ((form : StripForm) × IsCodable asked form

@@ -1,5 +1,5 @@
--- Files that were written page by page, once their number of pages is told in each.
--- A definition without a citation is this project's profile.
+-- Files that were written page by page, once their number of pages is reported in each. A
+-- definition without a citation is this project's profile.
 use Rattle.std.specs.Prelude.{◌≡◌, ℕ, ◌<◌, ◌≤◌, ◌⊎◌, List, [], ◌∷◌, ◌++◌, length, take, drop}
 use Rattle.fax_files.specs.Directory.{max_file}
 use Rattle.fax_files.specs.Layout.{WrittenPage, file_of, with_pages}

@@ -1,9 +1,10 @@
 -- Places as text, and read from it.
 -- A definition without a citation is this project's profile.
 use Rattle.std.specs.Prelude.{◌≡◌, ◌≢◌, ℕ, ◌<◌, ◌≤◌, ◌⊎◌, nat_le, if◌then◌else◌, List, length, drop}
-use Rattle.fax_walk.specs.Items.{begun_text}
+use Rattle.fax_walk.specs.Items.{start_text}
 use Rattle.fax_walk.specs.declared.cursor.Cursor.{Cursor}
-use Rattle.fax_walk.specs.Pages.{IsCursor, IsLongCursor, LongPlace, cursor_text, long_cursor_text}
+use Rattle.fax_walk.specs.Pages.{IsCursor, IsLongCursor, LongCursorValue, cursor_text}
+use Rattle.fax_walk.specs.Pages.{long_cursor_text}
 use Rattle.fax_c.specs.declared.places.FaxPlace.{FaxPlace}
 use Rattle.fax_c.specs.Texts.{IsTextPut}
 use Rattle.fax_c.specs.views.Places.{HasRuns, LacksRuns, place_begun, long_place_of, most_runs}
@@ -18,7 +19,7 @@ IsTextTold text old new len status =
 abbrev pub TellsPlaceText : FaxPlace → List ℕ → List ℕ → List ℕ → ℕ → ℕ → Type 0
 TellsPlaceText place runs old new len status =
     ((place.runs ≤ length runs)
-    × IsTextTold (begun_text (place_begun place runs)) old new len status)
+    × IsTextTold (start_text (place_begun place runs)) old new len status)
     ⊎ ((len ≡ 0) × (new ≡ old)
     × ((LacksRuns place runs × (status ≡ 3)) ⊎ ((place.runs ≤ length runs) × (status ≡ 4))))
 
@@ -35,13 +36,13 @@ IsPlaceRead text old_runs place runs =
 abbrev pub NamesNoPlace : List ℕ → Type 0
 NamesNoPlace text =
     ((at : Cursor) → IsCursor at → text ≢ cursor_text at)
-    × ((found : LongPlace) → IsLongCursor found → text ≡ long_cursor_text found
+    × ((found : LongCursorValue) → IsLongCursor found → text ≡ long_cursor_text found
     → most_runs < length found.runs)
 
 -- a text is that of a place inside a strip whose runs have no room
 abbrev pub NamesLongerPlace : List ℕ → List ℕ → Type 0
 NamesLongerPlace text runs =
-    (found : LongPlace) × IsLongCursor found × (text ≡ long_cursor_text found)
+    (found : LongCursorValue) × IsLongCursor found × (text ≡ long_cursor_text found)
     × (length runs < length found.runs) × (length found.runs ≤ most_runs)
 
 -- the place of a text is read, or its runs have no room, or the text is no place's, or memory was

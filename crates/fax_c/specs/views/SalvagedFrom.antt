@@ -1,4 +1,4 @@
--- What is left of a damaged page from a place on, told.
+-- What is left of a damaged page from a place on, reported.
 use Rattle.std.specs.Prelude.{◌≡◌, ◌≢◌, ℕ, ◌+◌, ◌-◌, ◌*◌, ◌<◌, ◌≤◌, ◌⊎◌, List, [], ◌∷◌, ◌++◌}
 use Rattle.std.specs.Prelude.{length, take, drop, flat_map, Ok, Err}
 use Rattle.fax_rows.specs.Rows.{Colour, runs_of}
@@ -6,13 +6,13 @@ use Rattle.fax_rows.specs.Coded.{packed_len}
 use Rattle.fax_page.specs.Lines.{white_row}
 use Rattle.fax_walk.specs.declared.cursor.Cursor.{Cursor}
 use Rattle.fax_walk.specs.declared.end.End.{End}
-use Rattle.fax_walk.specs.declared.end.End.TheVariants.{Proper, Outside}
-use Rattle.fax_walk.specs.Items.{Inner}
+use Rattle.fax_walk.specs.declared.end.End.TheVariants.{EndOfPages, Outside}
+use Rattle.fax_walk.specs.Items.{StripPosition}
 use Rattle.fax_walk.specs.Pages.{FilePage, read_page}
 use Rattle.fax_walk.specs.Salvaged.{PageRow, AreRowsFrom, IsRowOfStrip, strip_left}
-use Rattle.fax_c.specs.declared.filled.Filled.{Filled}
-use Rattle.fax_c.specs.declared.filled.Stop.{Stop}
-use Rattle.fax_c.specs.declared.filled.Stop.TheVariants.{Done, Ended, Memory, NoRoom}
+use Rattle.fax_c.specs.declared.fill.Filled.{Filled}
+use Rattle.fax_c.specs.declared.fill.Stop.{Stop}
+use Rattle.fax_c.specs.declared.fill.Stop.TheVariants.{Done, Ended, Memory, NoRoom}
 use Rattle.fax_c.specs.declared.places.FaxPlace.{FaxPlace}
 use Rattle.fax_c.specs.declared.salvaged_raster.FaxLost.{FaxLost}
 use Rattle.fax_c.specs.declared.told.FaxTold.{FaxTold}
@@ -40,7 +40,7 @@ HasRoomFor width stride len room = (packed_len width ≤ stride) × HasRoomForBo
 -- a place of the caller's is row i of strip s of a page, read so: at the strip's beginning, where
 -- it has no runs; else after its bits, and over the row with its runs
 pub record IsPlaceOn (file : List ℕ) (here : FilePage) (place : FaxPlace) (runs : List ℕ) (s i : ℕ)
-    (at : Inner) : Type 0 where
+    (at : StripPosition) : Type 0 where
   pub row : IsRowOfStrip here.form place.row s i
   pub within : at.bits ≤ 8 * length (strip_left here file s).0
   pub width : length at.reference ≡ here.form.width
@@ -65,7 +65,7 @@ StopsNoLater rows stretches room =
 abbrev pub StopsAfter : List PageRow → List PageRow → ℕ → ℕ → ℕ → ℕ → ℕ → Stop → Type 0
 StopsAfter over rest len used stride stretches room Done =
     StopsNoLater over stretches room × IsFull len used stride stretches room
-StopsAfter over rest len used stride stretches room (Ended Proper) =
+StopsAfter over rest len used stride stretches room (Ended EndOfPages) =
     (rest ≡ []) × (EndsFound over → IsFull len used stride stretches room → ⊥)
 StopsAfter over rest len used stride stretches room stop = ⊥
 
@@ -92,7 +92,7 @@ abbrev pub IsPlaceAfterLeft : List ℕ → FilePage → List PageRow → Cursor 
 IsPlaceAfterLeft file here rest cursor place old_runs runs =
     (cursor_of place ≡ cursor) × (drop place.runs runs ≡ drop place.runs old_runs)
     × (((cursor.row ≡ here.form.rows) × (place ≡ place_at cursor) × (rest ≡ []))
-    ⊎ ((s : ℕ) × (i : ℕ) × (at : Inner) × IsPlaceOn file here place runs s i at
+    ⊎ ((s : ℕ) × (i : ℕ) × (at : StripPosition) × IsPlaceOn file here place runs s i at
     × AreRowsFrom file here s i at rest))
 
 -- why nothing is written from a place on: a row or a stretch has no room; or no row of the page is
@@ -100,15 +100,15 @@ IsPlaceAfterLeft file here rest cursor place old_runs runs =
 abbrev pub WritesNone : List ℕ → FilePage → ℕ → FaxPlace → List ℕ → ℕ → ℕ → Stop → Type 0
 WritesNone file here stride place runs len room NoRoom =
     HasRoomFor here.form.width stride len room → ⊥
-WritesNone file here stride place runs len room (Ended Proper) =
+WritesNone file here stride place runs len room (Ended EndOfPages) =
     HasRoomFor here.form.width stride len room × (place.row ≡ here.form.rows)
 WritesNone file here stride place runs len room (Ended Outside) =
     HasRoomFor here.form.width stride len room × (place.row ≢ here.form.rows)
-    × ((s i : ℕ) (at : Inner) → IsPlaceOn file here place runs s i at → ⊥)
+    × ((s i : ℕ) (at : StripPosition) → IsPlaceOn file here place runs s i at → ⊥)
 WritesNone file here stride place runs len room Memory =
     HasRoomFor here.form.width stride len room × (place.row < here.form.rows)
     × ((s i : ℕ) → IsRowOfStrip here.form place.row s i
-    → (at : Inner) × IsPlaceOn file here place runs s i at)
+    → (at : StripPosition) × IsPlaceOn file here place runs s i at)
 WritesNone file here stride place runs len room stop = ⊥
 
 -- memory of the caller that is written: a place with its runs, a raster, a table of stretches
@@ -123,15 +123,15 @@ pub record LeftMemory : Type 0 where
 abbrev pub WritesFrom : List ℕ → FilePage → ℕ → LeftMemory → Filled → LeftMemory → Type 0
 WritesFrom file here stride old filled new =
     (HasRoomFor here.form.width stride (length old.raster) (length old.lost)
-    × (s : ℕ) × (i : ℕ) × (at : Inner) × IsPlaceOn file here old.place old.runs s i at
+    × (s : ℕ) × (i : ℕ) × (at : StripPosition) × IsPlaceOn file here old.place old.runs s i at
     × (rows : List PageRow) × (rest : List PageRow) × AreRowsFrom file here s i at rows
     × AreFirstWritten old.place.page old.place.row stride rows rest old.raster old.lost filled
     new.raster new.lost × IsPlaceAfterLeft file here rest filled.cursor new.place old.runs new.runs)
     ⊎ (WritesNone file here stride old.place old.runs (length old.raster) (length old.lost)
     filled.stop × (filled ≡ none_filled_at (cursor_of old.place) filled.stop) × (new ≡ old))
 
--- a page has the number of a place, and what is left of it is written and told; or there is no such
--- page; or the file is too long, or not all runs of any row have room; then nothing is changed
+-- a page has the number of a place, and what is left of it is written and reported; or there is no
+-- such page; or the file is too long, or not all runs of any row have room; then nothing is changed
 abbrev pub TellsSalvagedFrom : List ℕ → ℕ → LeftMemory → LeftMemory → FaxTold → FaxTold → ℕ
     → Type 0
 TellsSalvagedFrom file stride old new old_told told status =

@@ -1,4 +1,4 @@
--- What is left of a damaged page or strip, told.
+-- What is left of a damaged page or strip, reported.
 use Rattle.std.specs.Prelude.{◌≡◌, ℕ, ◌-◌, ◌*◌, ◌<◌, ◌≤◌, ◌⊎◌, Bool, List, ◌++◌, length, take, drop}
 use Rattle.std.specs.Prelude.{flat_map, Ok, Err}
 use Rattle.fax_bits.specs.Bits.{bits}
@@ -11,10 +11,11 @@ use Rattle.fax_walk.specs.declared.cursor.Cursor.{Cursor}
 use Rattle.fax_walk.specs.declared.end.End.{End}
 use Rattle.fax_walk.specs.Pages.{FilePage, read_page}
 use Rattle.fax_walk.specs.Salvaged.{PageRow}
-use Rattle.fax_walk.specs.views.RowsLeft.{LeftOf, of_page, of_strip, AreLeftOf, AreRowsUncounted}
-use Rattle.fax_c.specs.declared.filled.Filled.{Filled}
-use Rattle.fax_c.specs.declared.filled.Stop.{Stop}
-use Rattle.fax_c.specs.declared.filled.Stop.TheVariants.{Done, Ended, Memory, NoRoom}
+use Rattle.fax_walk.specs.views.SalvagedRows.{LeftOf, of_page, of_strip, AreLeftOf}
+use Rattle.fax_walk.specs.views.SalvagedRows.{AreRowsUncounted}
+use Rattle.fax_c.specs.declared.fill.Filled.{Filled}
+use Rattle.fax_c.specs.declared.fill.Stop.{Stop}
+use Rattle.fax_c.specs.declared.fill.Stop.TheVariants.{Done, Ended, Memory, NoRoom}
 use Rattle.fax_c.specs.declared.forms.FaxForm.{FaxForm}
 use Rattle.fax_c.specs.declared.salvaged_raster.FaxLost.{FaxLost}
 use Rattle.fax_c.specs.declared.places.FaxPlace.{FaxPlace}
@@ -68,8 +69,8 @@ WritesLeft its page width count stride old filled new =
     × (((filled ≡ none_filled page NoRoom) × (HoldsRows (length old.raster) width count stride → ⊥))
     ⊎ ((filled ≡ none_filled page Memory) × HoldsRows (length old.raster) width count stride)))
 
--- a page's form is told, and what is left of the page; or there is no such page, and the end is
--- told
+-- a page's form is reported, and what is left of the page; or there is no such page, and the end is
+-- reported
 abbrev pub TellsSalvaged : List ℕ → ℕ → ℕ → FaxForm → FaxForm → SalvageMemory → SalvageMemory
     → FaxTold → ℕ → Type 0
 TellsSalvaged file page stride old_form form old new told status =
@@ -86,15 +87,15 @@ abbrev pub end_place : Cursor → RowsEnd → FaxPlace
 end_place cursor (Fault fault) = place_at (record cursor { row = cursor.row - 1 })
 end_place cursor end = place_at cursor
 
--- what was written of rows that nobody counted is told, with how they end, where all stretches have
--- room
+-- what was written of rows of a strip of unknown height is reported, with how they end, where all
+-- stretches have room
 abbrev pub IsLeftTold : Filled → RowsEnd → FaxTold → ℕ → Type 0
 IsLeftTold filled end told status =
     ((filled.stop ≡ NoRoom) × IsTold filled told status)
     ⊎ ((filled.stop ≡ Done) × IsRowsEndTold filled (end_place filled.cursor end) end told status)
 
--- what is left of rows that nobody counted is written, and how they end is told; or it has no room,
--- and how many rows it is is told; or memory was refused; then nothing is written
+-- what is left of rows of a strip of unknown height is written, and how they end is reported; or it
+-- has no room, and how many rows it is is reported; or memory was refused; then nothing is written
 abbrev pub WritesUncounted : StripForm → List Bool → ℕ → SalvageMemory → SalvageMemory → FaxTold
     → ℕ → Type 0
 WritesUncounted form b stride old new told status =
@@ -106,8 +107,8 @@ WritesUncounted form b stride old new told status =
     × (new ≡ old))))
     ⊎ (IsTold (none_filled 0 Memory) told status × (new ≡ old))
 
--- what is left of a strip is told, of counted rows or of such as nobody counted; or it can be read
--- in no form of these numbers, and nothing is changed
+-- what is left of a strip is reported, of counted rows or those of unknown height; or it can be
+-- read in no form of these numbers, and nothing is changed
 abbrev pub TellsStripSalvaged : AskedStrip → SalvageMemory → SalvageMemory → FaxTold → FaxTold → ℕ
     → Type 0
 TellsStripSalvaged asked old new old_told told status =

@@ -12,22 +12,23 @@ use Rattle.fax_page.specs.declared.StripFault.TheVariants.{DataEnds, EndMarker}
 use Rattle.fax_page.specs.declared.StripForm.{StripForm}
 use Rattle.fax_page.specs.Lines.{IsCause}
 use Rattle.fax_page.specs.Strip.{AreLines}
-use Rattle.fax_page.specs.Uncounted.{EndsSo, MayHaveEndMark}
+use Rattle.fax_page.specs.Uncounted.{RowsEndAs, MayHaveEndMark}
 use Rattle.fax_c.specs.declared.places.FaxPlace.{FaxPlace}
 use Rattle.fax_c.specs.declared.strip_form.FaxStrip.{FaxStrip}
 use Rattle.fax_c.specs.declared.told.FaxTold.{FaxTold}
 use Rattle.fax_c.specs.Raster.{padded_row}
 use Rattle.fax_c.specs.Told.{no_fault}
 use Rattle.fax_c.specs.views.Places.{most_runs}
-use Rattle.fax_c.specs.views.BareStrips.{AskedStrip, HasRoom, IsDueAt, IsPlaceAfter, IsReadableIn}
+use Rattle.fax_c.specs.views.BareStrips.{AskedStrip, HasRoom, IsUpcomingAt, IsPlaceAfter}
+use Rattle.fax_c.specs.views.BareStrips.{IsReadableIn}
 use Rattle.fax_c.specs.views.BareStrips.{ReadsTo, StripMemory, StripPlace, TellsStripRows}
 
--- the rows from one place of a strip to another are written and told, each in so many bytes, and
--- are the same whatever bytes follow; the place is the one after them, and no fault is told
+-- the rows from one place of a strip to another are written and reported, each in so many bytes,
+-- and are the same whatever bytes follow; the place is the one after them, and no fault is reported
 pub record ArePartRead (form : StripForm) (asked : AskedStrip) (old new : StripMemory)
     (told : FaxTold) (to : StripPlace) : Type 0 where
   pub from : StripPlace
-  pub due : IsDueAt form asked.strip old.place old.runs from
+  pub upcoming : IsUpcomingAt form asked.strip old.place old.runs from
   pub rows : List (List Colour)
   pub read : (more : List ℕ) → ReadsTo form (bits form.order (asked.strip ++ more)) from rows to
   pub count : told.count ≡ length rows
@@ -45,33 +46,33 @@ pub record IsNothingRead (old new : StripMemory) (told : FaxTold) : Type 0 where
   pub page : told.page ≡ old.place.page
   pub row : told.row ≡ old.place.row
 
--- rows that nobody counted, after which these bits are left, may end otherwise where more follow:
--- the data end in a row or after it, or an end mark may stand there
+-- rows of a strip of unknown height, after which these bits are left, may end otherwise where more
+-- follow: the data end in a row or after it, or an end mark may stand there
 abbrev pub MayChange : Coding → List Bool → RowsEnd → Type 0
-MayChange coding left Marked = ⊥
-MayChange coding left DataEnd = ⊤
-MayChange coding left (Fault fault) =
-    (fault ≡ DataEnds) ⊎ ((fault ≡ EndMarker) × MayHaveEndMark coding left)
-MayChange coding left TooMany = MayHaveEndMark coding left
+MayChange coding remaining Marked = ⊥
+MayChange coding remaining DataEnd = ⊤
+MayChange coding remaining (Fault fault) =
+    (fault ≡ DataEnds) ⊎ ((fault ≡ EndMarker) × MayHaveEndMark coding remaining)
+MayChange coding remaining TooMany = MayHaveEndMark coding remaining
 
--- the row that is due at a place is not settled by these bytes: they end in it; or nobody counted
--- the rows, and those up to there may end otherwise where more follow
+-- the next row at a place is not settled by these bytes: they end in it; or the height is unknown,
+-- and those up to there may end otherwise where more follow
 abbrev pub IsUnsettled : FaxStrip → StripForm → List ℕ → StripPlace → Type 0
 IsUnsettled given form strip to =
-    let left = drop to.bits (bits form.order strip) in
-    ((to.row < form.rows) × IsCause form to.row to.reference left DataEnds)
+    let remaining = drop to.bits (bits form.order strip) in
+    ((to.row < form.rows) × IsCause form to.row to.reference remaining DataEnds)
     ⊎ ((given.rows ≡ 0) × (stop : Option StripFault) × (end : RowsEnd)
-    × AreLines form to.row to.reference left [] stop left
-    × EndsSo form.coding to.row left stop end × MayChange form.coding left end)
+    × AreLines form to.row to.reference remaining [] stop remaining
+    × RowsEndAs form.coding to.row remaining stop end × MayChange form.coding remaining end)
 
 -- no row is read from a place that these bytes do not settle: they end before it, and a strip may
--- reach it; or nobody counted the rows, they are as many as a strip has, and may end otherwise
+-- reach it; or the height is unknown, they are as many as a strip has, and may end otherwise
 abbrev pub IsUnsettledAt : FaxStrip → StripForm → List ℕ → FaxPlace → Type 0
 IsUnsettledAt given form strip place =
-    let left = drop place.bits (bits form.order strip) in
+    let remaining = drop place.bits (bits form.order strip) in
     ((place.row < form.rows) × (8 * length strip < place.bits) × (place.bits ≤ 8 * 536870911))
     ⊎ ((given.rows ≡ 0) × (place.row ≡ form.rows) × (end : RowsEnd)
-    × EndsSo form.coding place.row left None end × MayChange form.coding left end)
+    × RowsEndAs form.coding place.row remaining None end × MayChange form.coding remaining end)
 
 -- rows are read up to one that has room and is not settled
 abbrev pub AwaitsMore : StripForm → AskedStrip → StripMemory → StripMemory → FaxTold → Type 0
@@ -82,8 +83,8 @@ AwaitsMore form asked old new told =
     × IsUnsettled asked.form form asked.strip to)
     ⊎ (IsNothingRead old new told × IsUnsettledAt asked.form form asked.strip old.place))
 
--- what is told of these bytes is told of them alone, and of all bytes, whatever follows; or rows
--- are read up to one that is not settled, and more bytes are waited for
+-- what is reported of these bytes is reported of them alone, and of all bytes, whatever follows; or
+-- rows are read up to one that is not settled, and more bytes are waited for
 abbrev pub TellsStripPart : AskedStrip → StripMemory → StripMemory → FaxTold → FaxTold → ℕ → Type 0
 TellsStripPart asked old new old_told told status =
     (TellsStripRows asked old new old_told told status

@@ -1,5 +1,5 @@
--- What is told of a strip with no file around it.
--- A definition without a citation is this project's profile.
+-- What is reported of a strip with no file around it. A definition without a citation is this
+-- project's profile.
 use Rattle.std.specs.Prelude.{◌≡◌, ℕ, ◌⊎◌, List}
 use Rattle.fax_bits.specs.Bits.{bits}
 use Rattle.fax_rows.specs.Rows.{Colour}
@@ -42,13 +42,13 @@ report_without_notes rows fault = record {
   fault = fault;
 }
 
--- so many rows that nobody counted were read, with these notes where they end well
+-- so many rows of a strip of unknown height were read, with these notes where they end well
 abbrev pub report_of_end : ℕ → RowsEnd → StripNotes → FaxStripReport
 report_of_end rows Marked notes = report_of_notes rows notes
 report_of_end rows DataEnd notes = report_of_notes rows notes
 report_of_end rows end notes = report_without_notes rows (end_fault 0 rows end)
 
--- the rows of a strip that nobody counted are read, and their notes told where they end well, or
+-- the rows of a strip of unknown height are read, and their notes reported where they end well, or
 -- the fault in the way of the next; or memory was refused; or the strip can be read so in no form
 -- of these numbers; then nothing is changed
 abbrev pub TellsUncountedReport : List ℕ → FaxStrip → FaxStripReport → FaxStripReport → ℕ → Type 0
@@ -61,9 +61,9 @@ TellsUncountedReport strip given old report status =
     ⊎ ((status ≡ 7) × ((form : StripForm) → IsReadableUncounted strip given form → ⊥)
     × (report ≡ old))
 
--- the rows of a strip are read, and its notes told, or the first row that cannot be read; or memory
--- was refused, and nothing is changed; or the strip can be read in no form of these numbers, but
--- where nobody counted its rows
+-- the rows of a strip are read, and its notes reported, or the first row that cannot be read; or
+-- memory was refused, and nothing is changed; or the strip can be read in no form of these numbers,
+-- but where the height is unknown
 abbrev pub TellsStripReport : List ℕ → FaxStrip → FaxStripReport → FaxStripReport → ℕ → Type 0
 TellsStripReport strip given old report status =
     ((form : StripForm) × IsReadable strip given form

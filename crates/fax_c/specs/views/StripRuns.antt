@@ -31,7 +31,7 @@ AreRowsInTable form table runs rows =
 abbrev pub IsFormWith : FaxStrip → ℕ → StripForm → Type 0
 IsFormWith given k form = IsStripFormGiven given form × (0 < k)
 
--- what is to be coded: the numbers of a form, k, a table of rows, and the runs that it tells of
+-- what is to be coded: the numbers of a form, k, a table of rows, and the runs that it names
 pub record AskedRuns : Type 0 where
   pub form : FaxStrip
   pub k : ℕ
@@ -39,8 +39,8 @@ pub record AskedRuns : Type 0 where
   pub runs : List ℕ
 
 -- the rows of a table are coded as a strip, which is written where it has room, and its length
--- told; or memory was refused; or the numbers are no form, or there are no such rows; then nothing
--- is written
+-- reported; or memory was refused; or the numbers are no form, or there are no such rows; then
+-- nothing is written
 abbrev pub TellsStripOfRuns : AskedRuns → List ℕ → List ℕ → ℕ → ℕ → Type 0
 TellsStripOfRuns asked old new len status =
     ((form : StripForm) × IsFormWith asked.form asked.k form

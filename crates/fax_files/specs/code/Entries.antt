@@ -6,11 +6,11 @@ use Rattle.fax_files.specs.declared.tags.TheConstants as Tags
 
 -- the entry of twelve bytes at a place
 abbrev pub entry_at : Endian → List ℕ → ℕ → Entry
-entry_at endian file place = record {
-  tag = number_at endian 2 file place;
-  kind = number_at endian 2 file (place + 2);
-  count = number_at endian 4 file (place + 4);
-  place = place + 8;
+entry_at endian file offset = record {
+  tag = number_at endian 2 file offset;
+  kind = number_at endian 2 file (offset + 2);
+  count = number_at endian 4 file (offset + 4);
+  offset = offset + 8;
 }
 
 -- an entry's values are SHORT or LONG, which integers may be (ours)

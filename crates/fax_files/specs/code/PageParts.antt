@@ -15,7 +15,7 @@ long_field tag count n = field_of tag Tags.LONG count (four n)
 
 -- the place of a RATIONAL
 abbrev pub rational_field : ℕ → ℕ → WrittenField
-rational_field tag place = field_of tag Tags.RATIONAL 1 (four place)
+rational_field tag offset = field_of tag Tags.RATIONAL 1 (four offset)
 
 -- the strips' lengths
 abbrev pub lengths_of : List (List ℕ) → List ℕ
@@ -70,4 +70,4 @@ values_bytes form offsets lengths =
 
 -- a file with its four bytes at a place set to a number
 abbrev pub with_four_at : List ℕ → ℕ → ℕ → List ℕ
-with_four_at file place n = take place file ++ four n ++ drop (place + 4) file
+with_four_at file offset n = take offset file ++ four n ++ drop (offset + 4) file

@@ -21,26 +21,26 @@ abbrev pub spelled_number : List ℕ → ℕ
 spelled_number digits = fold (λ number digit. 10 * number + (digit - 48)) 0 digits
 
 -- a byte that begins a piece of a gap
-abbrev pub begins_piece : ℕ → Bool
-begins_piece c = (c == 35) || is_white_space c
+abbrev pub starts_white_space : ℕ → Bool
+starts_white_space c = (c == 35) || is_white_space c
 
 -- what stands after all pieces, where a comment is open or not, and where something stands there
-abbrev pub after_pieces : Bool → List ℕ → Option (List ℕ)
-after_pieces in_comment [] = None
-after_pieces true (c ∷ bytes) = after_pieces (not (is_line_end c)) bytes
-after_pieces false (c ∷ bytes) =
-    if begins_piece c then (after_pieces (c == 35) bytes) else (Some (c ∷ bytes))
+abbrev pub skip_white_space : Bool → List ℕ → Option (List ℕ)
+skip_white_space in_comment [] = None
+skip_white_space true (c ∷ bytes) = skip_white_space (not (is_line_end c)) bytes
+skip_white_space false (c ∷ bytes) =
+    if starts_white_space c then (skip_white_space (c == 35) bytes) else (Some (c ∷ bytes))
 
 -- what stands after a gap
 abbrev pub after_gap : List ℕ → Option (List ℕ)
 after_gap [] = None
-after_gap (c ∷ bytes) = if begins_piece c then (after_pieces false (c ∷ bytes)) else None
+after_gap (c ∷ bytes) = if starts_white_space c then (skip_white_space false (c ∷ bytes)) else None
 
 -- a number above each limit, in place of a larger one
 abbrev pub capped : ℕ → ℕ
 capped n = min n 1000001
 
--- the number that is spelled so far, and goes on with the digits ahead
+-- the number that is spelled so far, and continues with the digits ahead
 abbrev pub capped_from : ℕ → List ℕ → ℕ
 capped_from number [] = number
 capped_from number (c ∷ bytes) =

@@ -4,7 +4,7 @@ use Rattle.std.specs.Prelude.{◌≡◌, ◌≢◌, ℕ, ◌+◌, ◌≤◌, Boo
 use Rattle.std.specs.Prelude.{take, if◌then◌else◌, drop, Option, Some, None, Result, Ok, Err}
 use Rattle.fax_files.specs.Directory.{Endian, FileFault, Entry, check, field, has_integers}
 use Rattle.fax_files.specs.Directory.{is_inside, needed, number_at, scalar, value_at}
-use Rattle.fax_files.specs.Directory.{values_place, ◌>>=◌}
+use Rattle.fax_files.specs.Directory.{values_offset, ◌>>=◌}
 use Rattle.fax_files.specs.declared.FileFault.TheVariants as Fault
 use Rattle.fax_files.specs.declared.fields.Limits.{Limits}
 use Rattle.fax_files.specs.declared.fields.Limits.TheVariants.{Between, AboveZero, Any}
@@ -76,10 +76,10 @@ pub record IsGoodResolution (found : Resolution) : Type 0 where
 -- an entry's RATIONAL, where both of its numbers are above 0
 abbrev pub good_rational : Endian → List ℕ → Entry → Option (ℕ × ℕ)
 good_rational endian file entry =
-    let place = values_place endian file entry in
-    let top = number_at endian 4 file place in
-    let bottom = number_at endian 4 file (place + 4) in
-    if ((entry.kind == Tags.RATIONAL) && (nat_le 1 entry.count && is_inside file place 8))
+    let offset = values_offset endian file entry in
+    let top = number_at endian 4 file offset in
+    let bottom = number_at endian 4 file (offset + 4) in
+    if ((entry.kind == Tags.RATIONAL) && (nat_le 1 entry.count && is_inside file offset 8))
     && (nat_lt 0 top && nat_lt 0 bottom) then (Some (top, bottom)) else None
 
 -- the bytes of a length at an offset, where they lie in the file

@@ -11,7 +11,7 @@ pub record AreStripPlaces (directory : TiffDirectory) (count : ℕ)
       Tags.STRIP_OFFSETS ≡ Some offsets
   pub counts_are : field (entries directory.endian directory.file directory.offset)
       Tags.STRIP_BYTE_COUNTS ≡ Some counts
-  pub offsets_inside : offsets.place + 4 ≤ length directory.file
-  pub counts_inside : counts.place + 4 ≤ length directory.file
+  pub offsets_inside : offsets.offset + 4 ≤ length directory.file
+  pub counts_inside : counts.offset + 4 ≤ length directory.file
   pub offsets_there : IsTrue (has_integers directory.endian directory.file offsets count)
   pub counts_there : IsTrue (has_integers directory.endian directory.file counts count)

@@ -51,8 +51,8 @@ AreStrips endian file q form s (rows ∷ strips) end =
 abbrev pub joined : List (List (List Colour)) → List (List Colour)
 joined strips = flat_map (λ rows. rows) strips
 
--- rows as they are handed out: with colours exchanged where black is coded as white
--- (TIFF 6.0, PhotometricInterpretation)
+-- rows as they are returned: with colours exchanged where black is coded as white (TIFF 6.0,
+-- PhotometricInterpretation)
 abbrev pub shown : PageForm → List (List Colour) → List (List Colour)
 shown form rows = if form.exchanged then map (map other) rows else rows
 
@@ -108,9 +108,9 @@ pub record IsOpen (old : Written) : Type 0 where
 -- directory's place; the directory is whole and the last one; the page is read as it was written
 pub record IsAppended (old new : Written) (q : ℕ) (written : WrittenPage) : Type 0 where
   pub link : number_at Little 4 new.bytes old.link ≡ q
-  pub kept : (place n : ℕ) → place + n ≤ length old.bytes
-      → (place + n ≤ old.link) ⊎ (old.link + 4 ≤ place)
-      → take n (drop place new.bytes) ≡ take n (drop place old.bytes)
+  pub kept : (offset n : ℕ) → offset + n ≤ length old.bytes
+      → (offset + n ≤ old.link) ⊎ (old.link + 4 ≤ offset)
+      → take n (drop offset new.bytes) ≡ take n (drop offset old.bytes)
   pub whole : IsTrue (is_directory Little new.bytes q)
   pub last : next_offset Little new.bytes q ≡ 0
   pub read : IsReadAt new.bytes q written
@@ -139,22 +139,22 @@ WrittenFilesAreRead =
     (pages : List WrittenPage) → 1 ≤ length pages → length pages ≤ 65535 → AreWritable pages
     → length (file_of pages) ≤ max_file → IsReadAs (file_of pages) pages
 
--- the fault of an offset that is due after these directories: it stands among them already, or no
--- whole directory stands there (TIFF 6.0, section 2)
+-- the fault of the next offset after these directories: it stands among them already, or no whole
+-- directory stands there (TIFF 6.0, section 2)
 abbrev pub offset_fault : Endian → List ℕ → List ℕ → ℕ → Option FileFault
-offset_fault endian file before due =
-    if list_any (λ q. due == q) before then (Some DirectoryLoop)
-    else (if is_directory endian file due then None else (Some DirectoryOutside))
+offset_fault endian file before next_at =
+    if list_any (λ q. next_at == q) before then (Some DirectoryLoop)
+    else (if is_directory endian file next_at then None else (Some DirectoryOutside))
 
--- from the offset that is due on, after these directories, the last one first, the chain goes over
--- these offsets to this end: at an offset of 0, or at one with a fault (TIFF 6.0, section 2)
+-- from the next offset on, after these directories, the last one first, the chain goes over these
+-- offsets to this end: at an offset of 0, or at one with a fault (TIFF 6.0, section 2)
 abbrev pub IsChainFrom : Endian → List ℕ → List ℕ → ℕ → List ℕ → Option FileFault → Type 0
-IsChainFrom endian file before due [] None = due ≡ 0
-IsChainFrom endian file before due [] (Some fault) =
-    (due ≢ 0) × (offset_fault endian file before due ≡ Some fault)
-IsChainFrom endian file before due (q ∷ offsets) end =
-    (q ≡ due) × (due ≢ 0) × (offset_fault endian file before due ≡ None)
-    × IsChainFrom endian file (due ∷ before) (next_offset endian file due) offsets end
+IsChainFrom endian file before next_at [] None = next_at ≡ 0
+IsChainFrom endian file before next_at [] (Some fault) =
+    (next_at ≢ 0) × (offset_fault endian file before next_at ≡ Some fault)
+IsChainFrom endian file before next_at (q ∷ offsets) end =
+    (q ≡ next_at) × (next_at ≢ 0) × (offset_fault endian file before next_at ≡ None)
+    × IsChainFrom endian file (next_at ∷ before) (next_offset endian file next_at) offsets end
 
 -- the offsets of a file's directories, and the fault that ends them, if any
 abbrev pub IsChain : Header → List ℕ → ChainRead → Type 0
@@ -191,7 +191,7 @@ abbrev pub FormsAreWithinLimits : Type 0
 FormsAreWithinLimits = (endian : Endian) (file : List ℕ) (q : ℕ) (form : PageForm)
     → All (λ byte. byte < 256) file → page endian file q ≡ Ok form → IsPageForm form
 
--- pages that are written are found by their links, and told another total they are the pages that
+-- pages that are written are found by their links, and given another total they are the pages that
 -- say that, in as many bytes
 pub record TotalsAreTold : Type 0 where
   pub told : (total other : ℕ) (pages : List WrittenPage)

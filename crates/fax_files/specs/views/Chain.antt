@@ -5,10 +5,10 @@ use Rattle.fax_files.specs.declared.FileFault.{FileFault}
 use Rattle.fax_files.specs.Directory.{ChainRead, read_chain}
 use Rattle.fax_files.specs.views.Tiff.{TiffFile, TiffDirectory, directory_of}
 
--- a reader of a file's chain: the file, and how many directories were handed out
+-- a reader of a file's chain: the file, and how many directories were returned
 pub record ChainState : Type 0 where
   pub tiff : TiffFile
-  pub given : ℕ
+  pub yielded : ℕ
 
 -- a directory of this file
 abbrev pub IsDirectoryOf : TiffFile → TiffDirectory → Type 0
@@ -25,14 +25,14 @@ answer_at tiff None (Some fault) = Err fault
 abbrev pub chain_of : TiffFile → ChainRead
 chain_of tiff = read_chain tiff.head tiff.file
 
--- the answer of a reader: the directory of the chain that stands after those handed out, or else
--- the end of the chain
+-- the answer of a reader: the directory of the chain that stands after those returned, or else the
+-- end of the chain
 abbrev pub due_answer : ChainState → Result (Option TiffDirectory) FileFault
 due_answer chain =
     let whole = chain_of chain.tiff in
-    answer_at chain.tiff (slice_get whole.offsets chain.given) whole.end
+    answer_at chain.tiff (slice_get whole.offsets chain.yielded) whole.end
 
 -- a reader after its answer: one directory on, or as it was
 abbrev pub after_answer : ChainState → Result (Option TiffDirectory) FileFault → ChainState
-after_answer chain (Ok (Some directory)) = record chain { given = chain.given + 1 }
+after_answer chain (Ok (Some directory)) = record chain { yielded = chain.yielded + 1 }
 after_answer chain _ = chain

@@ -1,10 +1,10 @@
--- How the rows that are left are looked for, where nobody counted them.
+-- How the remaining rows are looked for, where the height is unknown.
 use Rattle.std.specs.Prelude.{◌≡◌, ◌≢◌, ◌≤◌, ◌⊎◌, ◌+◌, ℕ, List, ◌++◌, length}
 use Rattle.std.specs.Prelude.{Option, Some, None}
 use Rattle.fax_page.specs.declared.StripFault.{StripFault}
 use Rattle.fax_page.specs.declared.StripFault.TheVariants.{MissingEol}
 use Rattle.fax_page.specs.declared.salvage_reader.Salvaged.{Salvaged}
-use Rattle.fax_page.specs.declared.salvage_reader.Salvaged.TheVariants.{Found, Lost, Unended}
+use Rattle.fax_page.specs.declared.salvage_reader.Salvaged.TheVariants.{Found, Lost, Unterminated}
 use Rattle.fax_page.specs.Strip.{most_rows}
 use Rattle.fax_page.specs.Salvage.{SalvagedRow}
 use Rattle.fax_page.specs.Uncounted.{RowsEnd}
@@ -15,13 +15,13 @@ use Rattle.fax_page.specs.views.Salvage.{SalvageState}
 abbrev pub alone : Salvaged → Salvaged
 alone Found = Found
 alone (Lost fault rows) = Lost fault 1
-alone (Unended rows) = Unended 1
+alone (Unterminated rows) = Unterminated 1
 
 -- why a row is lost, if it is
 abbrev pub fault_of : Salvaged → Option StripFault
 fault_of Found = None
 fault_of (Lost fault rows) = Some fault
-fault_of (Unended rows) = Some MissingEol
+fault_of (Unterminated rows) = Some MissingEol
 
 -- the fault with which the rows end after one that was passed, where a strip has no more
 abbrev pub IsOverAfter : SalvageState → Salvaged → Option StripFault → Type 0
@@ -29,12 +29,12 @@ IsOverAfter strip salvaged over =
     ((strip.row ≡ most_rows) × (over ≡ fault_of salvaged))
     ⊎ ((strip.row ≢ most_rows) × (over ≡ None))
 
--- rows that nobody counted are gone through as a strip of the most rows
+-- rows of a strip of unknown height are gone through as a strip of the most rows
 pub record IsGoingThrough (strip : SalvageState) (row : ℕ) (over : Option StripFault)
     : Type 0 where
   pub most : strip.form.rows ≡ most_rows
   pub few : row ≤ most_rows
-  pub due : over ≡ None → row ≡ strip.row
+  pub upcoming : over ≡ None → row ≡ strip.row
 
 -- so many rows are passed, and others are left
 pub record HasPassed (old : UncountedState) (now : UncountedState) : Type 0 where

@@ -8,15 +8,15 @@ use Rattle.fax_page.specs.declared.Coding.{Coding}
 use Rattle.fax_page.specs.declared.Coding.TheVariants.{Mmr}
 use Rattle.fax_page.specs.declared.StripForm.{StripForm}
 use Rattle.fax_page.specs.declared.StripFault.{StripFault}
-use Rattle.fax_page.specs.declared.uncounted.MarkEol.{MarkEol}
-use Rattle.fax_page.specs.declared.uncounted.MarkEol.TheVariants.{Cut, Other, Whole}
+use Rattle.fax_page.specs.declared.uncounted.RtcEol.{RtcEol}
+use Rattle.fax_page.specs.declared.uncounted.RtcEol.TheVariants.{Cut, Other, Whole}
 use Rattle.fax_page.specs.declared.notes.NotedRows.{NotedRows}
 use Rattle.fax_page.specs.declared.notes.NotedStrip.{NotedStrip}
 use Rattle.fax_page.specs.declared.notes.NotesFault.{NotesFault}
 use Rattle.fax_page.specs.declared.notes.NotesFault.TheVariants.{Memory, Strip}
 use Rattle.fax_page.specs.declared.notes.StripNotes.{StripNotes}
 use Rattle.fax_page.specs.declared.notes.UncountedNotes.{UncountedNotes}
-use Rattle.fax_page.specs.Uncounted.{EndsSo}
+use Rattle.fax_page.specs.Uncounted.{RowsEndAs}
 use Rattle.fax_page.specs.declared.Dimension.{Dimension}
 use Rattle.fax_page.specs.views.Strip.{IsStripForm}
 use Rattle.fax_rows.specs.declared.RowFault.{RowFault}
@@ -25,8 +25,8 @@ use Rattle.fax_page.specs.Lines.{IsLine, IsCause, read_codes, read_start, white_
 use Rattle.fax_page.specs.code.Starts.{IsStop}
 use Rattle.fax_page.specs.Strip.{row_bits}
 use Rattle.fax_page.specs.Strip.{AreLines}
-use Rattle.fax_page.specs.Strip.{IsReturnEol, AreReturnEols, IsEndMark, HasEndMark}
-use Rattle.fax_page.specs.Strip.{HasOtherChoice}
+use Rattle.fax_page.specs.Strip.{IsRtcEol, AreRtcEols, IsEndMark, HasEndMark}
+use Rattle.fax_page.specs.Strip.{HasNonCanonicalRow}
 
 -- a row's codes are those that T.4 chooses (T.4, sections 4.1.1 and 4.2.1.3.3)
 abbrev pub IsChosen : Dimension → List Colour → List Bool → List Colour → List Bool → Type 0
@@ -87,47 +87,47 @@ IsLineFault form i reference b (Strip row fault) = (row ≡ i) × IsCause form i
 -- the rows before row i were read, the last of them is the reference, and whether some of them is
 -- coded otherwise than T.4 chooses
 pub record AreRowsRead (form : StripForm) (b : List Bool) (i : ℕ) (reference : List Colour)
-    (left : List Bool) (other : Bool) : Type 0 where
+    (remaining : List Bool) (other : Bool) : Type 0 where
   pub before : List (List Colour)
   pub count : length before ≡ i
   pub lines : (more : List (List Colour)) (end : Option StripFault) (after : List Bool)
-      → AreLines form i reference left more end after
+      → AreLines form i reference remaining more end after
       → AreLines form 0 (white_row form.width) b (before ++ more) end after
   pub found : other ≡ true → (more : List (List Colour))
-      → HasOtherChoice form 0 (white_row form.width) b (before ++ more)
-  pub onward : (more : List (List Colour)) → HasOtherChoice form i reference left more
-      → HasOtherChoice form 0 (white_row form.width) b (before ++ more)
+      → HasNonCanonicalRow form 0 (white_row form.width) b (before ++ more)
+  pub onward : (more : List (List Colour)) → HasNonCanonicalRow form i reference remaining more
+      → HasNonCanonicalRow form 0 (white_row form.width) b (before ++ more)
   pub back : (more : List (List Colour))
-      → HasOtherChoice form 0 (white_row form.width) b (before ++ more)
-      → (other ≡ true) ⊎ HasOtherChoice form i reference left more
+      → HasNonCanonicalRow form 0 (white_row form.width) b (before ++ more)
+      → (other ≡ true) ⊎ HasNonCanonicalRow form i reference remaining more
 
 -- whether an EOL of a return to control stands next, after which the source goes then
 abbrev pub TakesReturnEol : Coding → List Bool → Bool → List Bool → Type 0
-TakesReturnEol coding b true rest = IsReturnEol coding b rest
-TakesReturnEol coding b false rest = (after : List Bool) → IsReturnEol coding b after → ⊥
+TakesReturnEol coding b true rest = IsRtcEol coding b rest
+TakesReturnEol coding b false rest = (after : List Bool) → IsRtcEol coding b after → ⊥
 
 -- an EOL of a return to control was taken; or bits that follow may make one, which ends with them;
 -- or none may
-abbrev pub IsMarkEol : Coding → List Bool → MarkEol → List Bool → Type 0
-IsMarkEol coding b Whole rest = IsReturnEol coding b rest
-IsMarkEol coding b Cut rest = (more : List Bool) × IsReturnEol coding (b ++ more) []
+abbrev pub IsMarkEol : Coding → List Bool → RtcEol → List Bool → Type 0
+IsMarkEol coding b Whole rest = IsRtcEol coding b rest
+IsMarkEol coding b Cut rest = (more : List Bool) × IsRtcEol coding (b ++ more) []
 IsMarkEol coding b Other rest =
-    (more after : List Bool) → IsReturnEol coding (b ++ more) after → ⊥
+    (more after : List Bool) → IsRtcEol coding (b ++ more) after → ⊥
 
 -- the bits begin with a return to control, or may where more follow
 abbrev pub MayHaveReturn : Coding → List Bool → Type 0
-MayHaveReturn coding b = (more rest : List Bool) × AreReturnEols coding 6 (b ++ more) rest
+MayHaveReturn coding b = (more rest : List Bool) × AreRtcEols coding 6 (b ++ more) rest
 
 -- so many EOLs were taken: as many as stand ahead, and these, stand in the bits
 pub record AreEolsTaken (coding : Coding) (b : List Bool) (i : ℕ) (ahead : List Bool) : Type 0 where
-  pub onward : (n : ℕ) (rest : List Bool) → AreReturnEols coding n ahead rest
-      → AreReturnEols coding (i + n) b rest
-  pub back : (n : ℕ) (rest : List Bool) → AreReturnEols coding (i + n) b rest
-      → AreReturnEols coding n ahead rest
+  pub onward : (n : ℕ) (rest : List Bool) → AreRtcEols coding n ahead rest
+      → AreRtcEols coding (i + n) b rest
+  pub back : (n : ℕ) (rest : List Bool) → AreRtcEols coding (i + n) b rest
+      → AreRtcEols coding n ahead rest
 
 -- what stands after a mark, or nothing where there is none
 abbrev pub IsAfterMark : (List Bool → Type 0) → Option Source → Type 0
-IsAfterMark mark (Some source) = mark source.left
+IsAfterMark mark (Some source) = mark source.remaining
 IsAfterMark mark None = (rest : List Bool) → mark rest → ⊥
 
 -- what stands after the end mark, or all of the bits where they begin with none
@@ -136,20 +136,22 @@ IsAfterEnd coding b after = IsEndMark coding b after ⊎ ((HasEndMark coding b �
 
 -- the notes on a strip by what is left after its rows, and whether some row is coded otherwise
 -- than T.4 chooses
-pub record AreNotesAfter (coding : Coding) (left : List Bool) (other : Bool)
+pub record AreNotesAfter (coding : Coding) (remaining : List Bool) (other : Bool)
     (notes : StripNotes) : Type 0 where
   pub after : List Bool
-  pub after_end : IsAfterEnd coding left after
+  pub after_end : IsAfterEnd coding remaining after
   pub no_end_of_block : IsTrue notes.no_end_of_block ↔
-      ((coding ≡ Mmr) × (HasEndMark coding left → ⊥))
-  pub return_to_control : IsTrue notes.return_to_control ↔ ((coding ≢ Mmr) × HasEndMark coding left)
+      ((coding ≡ Mmr) × (HasEndMark coding remaining → ⊥))
+  pub return_to_control : IsTrue notes.return_to_control ↔ ((coding ≢ Mmr)
+      × HasEndMark coding remaining)
   pub data_after_end : IsTrue notes.data_after_end ↔ Contains after true
   pub other_is : notes.not_t4_choice ≡ other
 
 -- so many rows end so, and have these notes, by what is left after them, by the fault that is in
 -- the way of the next one, and by whether some row is coded otherwise than T.4 chooses
-pub record AreFoundAfter (coding : Coding) (left : List Bool) (rows : ℕ) (stop : Option StripFault)
+pub record AreFoundAfter (coding : Coding) (remaining : List Bool) (rows : ℕ) (stop : Option
+    StripFault)
     (other : Bool) (found : UncountedNotes) : Type 0 where
   pub rows_are : found.rows ≡ rows
-  pub end : EndsSo coding rows left stop found.end
-  pub notes : AreNotesAfter coding left other found.notes
+  pub end : RowsEndAs coding rows remaining stop found.end
+  pub notes : AreNotesAfter coding remaining other found.notes

@@ -7,20 +7,20 @@ use Rattle.fax_page.specs.declared.StripForm.{StripForm}
 use Rattle.fax_page.specs.declared.StripFault.{StripFault}
 use Rattle.fax_page.specs.views.Strip.{IsStripForm}
 
--- the row before the one that is due, of two that take turns
+-- the row before the next one, of two that take turns
 abbrev pub row_before : Bool → List Colour → List Colour → List Colour
 row_before true first second = second
 row_before false first second = first
 
--- the form is within the limits, the bytes can be read, the reference has its width, the row that
--- is due stands from the one that was begun at up to the place after the last, the place lies in
--- the bytes, and until a fault was met the source stands where the row that is due begins
-pub record IsReading (form : StripForm) (bytes : List ℕ) (source : Source) (place begun row : ℕ)
+-- the form is within the limits, the bytes can be read, the reference has its width, the next row
+-- stands from the one that was started at up to the place after the last, the place lies in the
+-- bytes, and until a fault was met the source stands where the next row begins
+pub record IsReading (form : StripForm) (bytes : List ℕ) (source : Source) (place origin row : ℕ)
     (reference : List Colour) (fault : Option StripFault) : Type 0 where
   pub limits : IsStripForm form
   pub width : length reference ≡ form.width
   pub count : length bytes ≤ 4294967295
-  pub begun_before : begun ≤ row
+  pub begun_before : origin ≤ row
   pub within : row ≤ form.rows
   pub placed : place ≤ 8 * length bytes
   pub at_row : fault ≡ None → source ≡ source_of form.order bytes place

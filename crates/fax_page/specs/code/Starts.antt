@@ -5,7 +5,7 @@ use Rattle.fax_page.specs.declared.StripFault.{StripFault}
 use Rattle.fax_page.specs.declared.StripFault.TheVariants.{DataEnds, EndMarker, MissingEol}
 use Rattle.fax_page.specs.Lines.{ends_line, in_code, next_one, not_there, strip_fault}
 
--- the bits begin with fill and an EOL, or with a code where one is due
+-- the bits begin with fill and an EOL, or with a code where one is expected
 abbrev pub IsEndOfLine : List Bool → List Bool → Type 0
 IsEndOfLine b rest = next_one 0 b ≡ ends_line rest
 
@@ -22,7 +22,7 @@ HasNoEol may_lack b fault =
     ((next_one 0 b ≡ not_there) × (fault ≡ DataEnds))
     ⊎ ((may_lack ≡ false) × BeginsBelowEleven b × (fault ≡ MissingEol))
 
--- eleven zeros stand where a row's first code is due, or fewer zeros and nothing after them
+-- eleven zeros stand where a row's first code is expected, or fewer zeros and nothing after them
 abbrev pub IsFirstCodeFault : List Bool → StripFault → Type 0
 IsFirstCodeFault b fault =
     ((after : List Bool) × (b ≡ replicate 11 false ++ after) × (fault ≡ EndMarker))

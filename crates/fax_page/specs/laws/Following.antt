@@ -1,11 +1,11 @@
--- Laws of data that may go on: what is read of bits stays, whatever bits follow them. Functions of
--- the module `laws` prove them.
+-- Laws of data that may continue: what is read of bits stays, whatever bits follow them. Functions
+-- of the module `laws` prove them.
 use Rattle.std.specs.Prelude.{◌≢◌, ℕ, ◌+◌, Bool, List, ◌++◌, length, Option, Some}
 use Rattle.fax_bits.specs.declared.Colour.{Colour}
 use Rattle.fax_page.specs.declared.StripFault.TheVariants.{DataEnds, EndMarker}
 use Rattle.fax_page.specs.Lines.{Coding, IsCause, IsLine, StripFault, StripForm}
 use Rattle.fax_page.specs.Strip.{AreLines, HasEndMark}
-use Rattle.fax_page.specs.Uncounted.{EndsSo, Fault, HasDataEnd, Marked}
+use Rattle.fax_page.specs.Uncounted.{RowsEndAs, Fault, HasDataEnd, Marked}
 use Rattle.fax_page.specs.laws.Writer.{last_of}
 
 -- row i of a strip is the same row, whatever follows the bits; and the fault in its way is the same
@@ -23,20 +23,20 @@ pub record StaysWhateverFollows (form : StripForm) (i : ℕ) (reference : List C
 abbrev pub ReadsInPieces : Type 0
 ReadsInPieces =
     (form : StripForm) (i : ℕ) (reference : List Colour) (b more : List Bool)
-    (rows others : List (List Colour)) (stop end : Option StripFault) (left after : List Bool)
-    → AreLines form i reference b rows stop left
-    → AreLines form (i + length rows) (last_of reference rows) (left ++ more) others end after
+    (rows others : List (List Colour)) (stop end : Option StripFault) (remaining after : List Bool)
+    → AreLines form i reference b rows stop remaining
+    → AreLines form (i + length rows) (last_of reference rows) (remaining ++ more) others end after
     → AreLines form i reference (b ++ more) (rows ++ others) end after
 
--- how rows that nobody counted end stays, whatever follows: with an end mark, or with a fault that
--- is neither the end of the data nor an end marker. And where nothing but fill is left of all bits,
--- nothing else is left of the first of them
+-- how the rows of a strip of unknown height end stays, whatever follows: with an end mark, or with
+-- a fault that is neither the end of the data nor an end marker. And where nothing but fill is left
+-- of all bits, nothing else is left of the first of them
 pub record EndsStayWhateverFollows : Type 0 where
-  pub mark : (coding : Coding) (row : ℕ) (left more : List Bool) (stop : Option StripFault)
-      → HasEndMark coding left → EndsSo coding row (left ++ more) stop Marked
-  pub fault : (form : StripForm) (i row : ℕ) (reference : List Colour) (left more : List Bool)
+  pub mark : (coding : Coding) (row : ℕ) (remaining more : List Bool) (stop : Option StripFault)
+      → HasEndMark coding remaining → RowsEndAs coding row (remaining ++ more) stop Marked
+  pub fault : (form : StripForm) (i row : ℕ) (reference : List Colour) (remaining more : List Bool)
       (fault : StripFault) → fault ≢ DataEnds → fault ≢ EndMarker
-      → IsCause form i reference left fault
-      → EndsSo form.coding row (left ++ more) (Some fault) (Fault fault)
-  pub fill : (row : ℕ) (left more : List Bool) → HasDataEnd row (left ++ more)
-      → HasDataEnd row left
+      → IsCause form i reference remaining fault
+      → RowsEndAs form.coding row (remaining ++ more) (Some fault) (Fault fault)
+  pub fill : (row : ℕ) (remaining more : List Bool) → HasDataEnd row (remaining ++ more)
+      → HasDataEnd row remaining

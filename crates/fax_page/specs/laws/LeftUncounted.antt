@@ -1,4 +1,5 @@
--- Laws of what is left of rows that nobody counted, which a function of the module `laws` proves.
+-- Laws of what is left of rows of a strip of unknown height, which a function of the module `laws`
+-- proves.
 use Rattle.std.specs.Prelude.{◌≡◌, ℕ, ◌≤◌, ◌⊎◌, Bool, List, ◌++◌, map, Option}
 use Rattle.fax_bits.specs.declared.Colour.{Colour}
 use Rattle.fax_page.specs.Lines.{StripFault, StripForm}
@@ -6,7 +7,7 @@ use Rattle.fax_page.specs.Uncounted.{DataEnd, IsUncounted, Marked, RowsEnd, unco
 use Rattle.fax_page.specs.Salvage.{AreSalvaged, SalvagedRow, found}
 use Rattle.fax_page.specs.LeftUncounted.{AreLeftUncounted, IsLeftUncounted}
 
--- from row i on rows that nobody counted are left in one way: one list and one end
+-- from row i on rows of a strip of unknown height are left in one way: one list and one end
 pub record AreUncountedOneWay (form : StripForm) (i : ℕ) (before : Option StripFault)
     (reference : List Colour) (b : List Bool) : Type 0 where
   pub rows : List SalvagedRow
@@ -15,8 +16,8 @@ pub record AreUncountedOneWay (form : StripForm) (i : ℕ) (before : Option Stri
   pub one : (others : List SalvagedRow) (other : RowsEnd)
       → AreLeftUncounted form i before reference b others other → (others ≡ rows) × (other ≡ end)
 
--- rows that nobody counted are left in one way; they are the first rows that are left of a strip
--- with as many as there may be; and where they are read to a good end all are found
+-- rows of a strip of unknown height are left in one way; they are the first rows that are left of a
+-- strip with as many as there may be; and where they are read to a good end all are found
 pub record LeavesUncounted : Type 0 where
   pub one : (form : StripForm) (i : ℕ) (before : Option StripFault) (reference : List Colour)
       (b : List Bool) → i ≤ form.rows → AreUncountedOneWay form i before reference b

@@ -16,9 +16,9 @@ pub record HasReadFrom (start : StripState) (rows : List (List Colour))
     (state : StripState) : Type 0 where
   pub same_form : state.form ≡ start.form
   pub same_bytes : state.bytes ≡ start.bytes
-  pub followed : (more : List (List Colour)) (end : Option StripFault) (left : List Bool)
-      → AreLines start.form state.row state.reference (bits_left state) more end left
-      → AreLines start.form start.row start.reference (bits_left start) (rows ++ more) end left
+  pub followed : (more : List (List Colour)) (end : Option StripFault) (remaining : List Bool)
+      → AreLines start.form state.row state.reference (bits_left state) more end remaining
+      → AreLines start.form start.row start.reference (bits_left start) (rows ++ more) end remaining
 
 -- these rows of the bytes were read, one after another from the first on, and no more
 abbrev pub HasRead : StripForm → List ℕ → List (List Colour) → StripState → Type 0

@@ -4,9 +4,10 @@ use Rattle.std.specs.Prelude.{◌≡◌, ◌≢◌, ℕ, ◌+◌, ◌<◌, ◌�
 use Rattle.std.specs.Prelude.{drop, Option, Some, None}
 use Rattle.fax_bits.specs.declared.Colour.{Colour}
 use Rattle.fax_page.specs.Lines.{Coding, Mmr, StripFault, StripForm}
-use Rattle.fax_page.specs.Salvage.{AreSalvaged, SalvagedRow, after_eol, found, next_due, unended}
+use Rattle.fax_page.specs.Salvage.{AreSalvaged, SalvagedRow, after_eol, found, resync_point}
+use Rattle.fax_page.specs.Salvage.{unended}
 use Rattle.fax_page.specs.declared.StripFault.TheVariants.{MissingEol}
-use Rattle.fax_page.specs.Strip.{AreLines, end_of_line}
+use Rattle.fax_page.specs.Strip.{AreLines, eol_bits}
 use Rattle.fax_page.specs.declared.salvage_reader.Salvaged.{Salvaged}
 use Rattle.fax_page.specs.views.Salvage.{IsSalvageStep, SalvageState}
 
@@ -31,38 +32,39 @@ pub record FindsWholeStrips : Type 0 where
   pub whole : (form : StripForm) (i : ℕ) (reference : List Colour) (b : List Bool)
       (rows : List (List Colour))
       → AreSalvaged form i None reference b (map (λ row. found row) rows)
-      → (left : List Bool) × AreLines form i reference b rows None left
+      → (remaining : List Bool) × AreLines form i reference b rows None remaining
   pub all_found : (form : StripForm) (i : ℕ) (reference : List Colour) (b : List Bool)
-      (rows : List (List Colour)) (left : List Bool) → AreLines form i reference b rows None left
+      (rows : List (List Colour)) (remaining : List Bool)
+      → AreLines form i reference b rows None remaining
       → AreSalvaged form i None reference b (map (λ row. found row) rows)
 
 -- the rows that are read before a fault are found; all but the last where an EOL is missing after
 -- that one
 pub record FindsRowsBeforeFaults : Type 0 where
   pub all : (form : StripForm) (i : ℕ) (reference : List Colour) (b : List Bool)
-      (rows : List (List Colour)) (fault : StripFault) (left : List Bool) → fault ≢ MissingEol
-      → AreLines form i reference b rows (Some fault) left
+      (rows : List (List Colour)) (fault : StripFault) (remaining : List Bool) → fault ≢ MissingEol
+      → AreLines form i reference b rows (Some fault) remaining
       → (others : List SalvagedRow)
       × AreSalvaged form i None reference b (map (λ row. found row) rows ++ others)
   pub all_but_last : (form : StripForm) (i : ℕ) (reference : List Colour) (b : List Bool)
-      (rows : List (List Colour)) (last : List Colour) (left : List Bool)
-      → AreLines form i reference b (rows ++ last ∷ []) (Some MissingEol) left
+      (rows : List (List Colour)) (last : List Colour) (remaining : List Bool)
+      → AreLines form i reference b (rows ++ last ∷ []) (Some MissingEol) remaining
       → (others : List SalvagedRow)
       × AreSalvaged form i None reference b (map (λ row. found row) rows ++ unended last ∷ others)
 
--- in MH and MR the row after a lost one is due at the next EOL, whatever bits that hold no EOL
+-- in MH and MR the row after a lost one begins at the next EOL, whatever bits that hold no EOL
 -- stand before it
 abbrev pub LostBitsDoNotMatter : Type 0
 LostBitsDoNotMatter =
     (coding : Coding) (lost rest : List Bool) → coding ≢ Mmr → after_eol 0 lost ≡ None
-    → next_due coding (lost ++ end_of_line ++ rest) ≡ Some (end_of_line ++ rest)
+    → resync_point coding (lost ++ eol_bits ++ rest) ≡ Some (eol_bits ++ rest)
 
 -- these bits are what is left of others after so many of them
 abbrev pub IsRestOf : List Bool → List Bool → Type 0
 IsRestOf all rest = (n : ℕ) × (n ≤ length all) × (drop n all ≡ rest)
 
--- a row that is due after others begins among the bits of the strip
+-- a row after others begins among the bits of the strip
 abbrev pub DueRowsStandInStrips : Type 0
 DueRowsStandInStrips =
     (old new : SalvageState) (salvaged : Salvaged) → IsSalvageStep old (Some salvaged) new
-    → new.row < new.form.rows → IsRestOf old.due new.due
+    → new.row < new.form.rows → IsRestOf old.upcoming new.upcoming

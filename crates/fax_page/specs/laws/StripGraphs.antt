@@ -8,7 +8,7 @@ use Rattle.fax_page.specs.declared.StripFault.{StripFault}
 use Rattle.fax_page.specs.declared.StripForm.{StripForm}
 use Rattle.fax_page.specs.Lines.{white_row}
 use Rattle.fax_page.specs.Strip.{AreLines}
-use Rattle.fax_page.specs.Uncounted.{EndsSo}
+use Rattle.fax_page.specs.Uncounted.{RowsEndAs}
 use Rattle.fax_page.specs.reads.Lines.{read_strip}
 use Rattle.fax_page.specs.LeftUncounted.{IsLeftUncounted}
 use Rattle.fax_page.specs.Salvage.{IsSalvagedStrip, SalvagedRow}
@@ -20,15 +20,15 @@ use Rattle.fax_page.specs.reads.Uncounted.{rows_end}
 abbrev pub StripsAreReadByFunctions : Type 0
 StripsAreReadByFunctions =
     (form : StripForm) (b : List Bool) (rows : List (List Colour)) (end : Option StripFault)
-    (left : List Bool)
-    → AreLines form 0 (white_row form.width) b rows end left
-    ↔ (read_strip form b ≡ record { rows = rows; end = end; left = left })
+    (remaining : List Bool)
+    → AreLines form 0 (white_row form.width) b rows end remaining
+    ↔ (read_strip form b ≡ record { rows = rows; end = end; remaining = remaining })
 
--- how rows end that nobody counted
+-- how the rows of a strip of unknown height end
 abbrev pub EndsAreToldByAFunction : Type 0
 EndsAreToldByAFunction =
-    (coding : Coding) (row : ℕ) (left : List Bool) (stop : Option StripFault) (end : RowsEnd)
-    → EndsSo coding row left stop end ↔ (rows_end coding row left stop ≡ end)
+    (coding : Coding) (row : ℕ) (remaining : List Bool) (stop : Option StripFault) (end : RowsEnd)
+    → RowsEndAs coding row remaining stop end ↔ (rows_end coding row remaining stop ≡ end)
 
 -- what becomes of the rows of a damaged strip, counted or not
 pub record DamagedStripsAreReadByFunctions : Type 0 where

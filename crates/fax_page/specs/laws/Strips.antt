@@ -12,7 +12,7 @@ use Rattle.fax_page.specs.views.Strip.{IsStripForm}
 use Rattle.fax_page.specs.Strip.{IsNotedAs}
 use Rattle.fax_page.specs.views.Strip.{IsStrip}
 use Rattle.fax_page.specs.declared.notes.StripNotes.{StripNotes}
-use Rattle.fax_page.specs.Strip.{end_of_line, fill_zeros, coded_bits, coded_strip}
+use Rattle.fax_page.specs.Strip.{eol_bits, fill_zeros, coded_bits, coded_strip}
 
 -- the rows are as many and as wide as the form says
 pub record AreRowsOf (form : StripForm) (rows : List (List Colour)) : Type 0 where
@@ -44,7 +44,7 @@ StripsAreNotedInOneWay =
 -- after so many bits and this much fill an EOL ends on a byte boundary
 -- (T.4, section 4.1.3; TIFF 6.0, T4Options)
 abbrev pub IsAligned : ℕ → ℕ → Type 0
-IsAligned before fill = (before + fill + length end_of_line) % 8 ≡ 0
+IsAligned before fill = (before + fill + length eol_bits) % 8 ≡ 0
 
 -- the fill before an aligned EOL makes it end on a byte boundary, and less fill does not
 -- (T.4, section 4.1.3; TIFF 6.0, T4Options)

@@ -1,4 +1,4 @@
--- Laws of rows that nobody counted, which functions of the module `laws` prove.
+-- Laws of rows of a strip of unknown height, which functions of the module `laws` prove.
 use Rattle.std.specs.Prelude.{ℕ, Bool, List, length, None}
 use Rattle.fax_bits.specs.declared.Colour.{Colour}
 use Rattle.fax_bits.specs.Bits.{bits}
@@ -9,11 +9,11 @@ use Rattle.fax_page.specs.Uncounted.{DataEnd, IsUncounted, Marked, RowsEnd}
 use Rattle.fax_page.specs.laws.Strips.{AreRowsOf}
 use Rattle.fax_page.specs.views.Strip.{IsStrip, IsStripForm}
 
--- any bits are read in one way as rows that nobody counted: one list of rows and one end
+-- any bits are read in one way as rows of a strip of unknown height: one list of rows and one end
 abbrev pub ReadsUncountedOneWay : StripForm → Type 0
 ReadsUncountedOneWay form = (b : List Bool) → IsOne (IsUncounted form b)
 
--- rows that nobody counted, however they end, are all rows of a strip of as many
+-- rows of a strip of unknown height, however they end, are all rows of a strip of as many
 abbrev pub UncountedRowsAreAStrip : Type 0
 UncountedRowsAreAStrip =
     (form : StripForm) (b : List Bool) (rows : List (List Colour)) (end : RowsEnd)
@@ -25,7 +25,7 @@ abbrev pub written_end : Coding → RowsEnd
 written_end Mmr = Marked
 written_end _ = DataEnd
 
--- the bytes of a written strip are its rows, though nobody counts them
+-- the bytes of a written strip are its rows, though their number is unknown
 abbrev pub CodedStripsAreUncounted : Type 0
 CodedStripsAreUncounted =
     (form : StripForm) (k : ℕ) (rows : List (List Colour)) → IsStripForm form → AreRowsOf form rows

@@ -8,19 +8,19 @@ use Rattle.fax_page.specs.declared.StripForm.{StripForm}
 use Rattle.fax_page.specs.Lines.{read_line, white_row}
 
 -- n rows from row i on, each over the row before it: those that are there, the fault in the way of
--- the next, and the bits that are left
+-- the next, and the remaining bits
 pub record StripRead : Type 0 where
   pub rows : List (List Colour)
   pub end : Option StripFault
-  pub left : List Bool
+  pub remaining : List Bool
 
 abbrev pub read_lines : ℕ → StripForm → ℕ → List Colour → List Bool → StripRead
-read_lines zero form i reference b = record { rows = []; end = None; left = b }
+read_lines zero form i reference b = record { rows = []; end = None; remaining = b }
 read_lines (suc n) form i reference b =
     elim (read_line form i reference b) [
-      | failed fault ↦ record { rows = []; end = Some fault; left = b }
+      | failed fault ↦ record { rows = []; end = Some fault; remaining = b }
       | read row rest ↦ let more = read_lines n form (i + 1) row rest in
-          record { rows = row ∷ more.rows; end = more.end; left = more.left }
+          record { rows = row ∷ more.rows; end = more.end; remaining = more.remaining }
     ]
 
 -- the rows of a strip

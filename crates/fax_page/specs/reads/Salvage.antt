@@ -1,5 +1,6 @@
--- What is left of a damaged strip, and of damaged rows that nobody counted, read by functions (T.4,
--- sections 4.1.2 and 4.2.2; T.6, section 2.2.1; the rest is this project's profile).
+-- What is left of a damaged strip, and of damaged rows of a strip of unknown height, read by
+-- functions (T.4, sections 4.1.2 and 4.2.2; T.6, section 2.2.1; the rest is this project's
+-- profile).
 use Rattle.std.specs.Prelude.{ℕ, zero, suc, ◌+◌, nat_lt, ◌&&◌, if◌then◌else◌, Bool, true, false}
 use Rattle.std.specs.Prelude.{List, [], ◌∷◌, replicate, Option, Some, None}
 use Rattle.fax_bits.specs.declared.Colour.{Colour}
@@ -14,7 +15,7 @@ use Rattle.fax_page.specs.declared.StripFault.TheVariants.{MissingEol}
 use Rattle.fax_page.specs.declared.StripForm.{StripForm}
 use Rattle.fax_bits.specs.Reading.{Read, read, failed}
 use Rattle.fax_page.specs.Lines.{NextOne, in_code, next_one, read_line, read_start, white_row}
-use Rattle.fax_page.specs.Salvage.{SalvagedRow, found, lost, next_due, sought_from, unended}
+use Rattle.fax_page.specs.Salvage.{SalvagedRow, found, lost, resync_point, resync_from, unended}
 use Rattle.fax_page.specs.reads.Uncounted.{rows_end}
 
 -- why a row is lost that is coded over one that is: for the cause of that one
@@ -36,7 +37,7 @@ abbrev pub read_over : StripForm → ℕ → Option StripFault → List Colour �
 read_over form i before reference b =
     unless (cause_over before (read_start form.coding i b)) (read_line form i reference b)
 
--- an EOL is due after row i, and something else begins there
+-- an EOL is expected after row i, and something else begins there
 abbrev pub has_eols : Coding → Bool
 has_eols Mh = true
 has_eols Mr = true
@@ -46,18 +47,18 @@ abbrev pub is_in_code : NextOne → Bool
 is_in_code in_code = true
 is_in_code _ = false
 
-abbrev pub lacks_eol : StripForm → ℕ → List Bool → Bool
-lacks_eol form i rest =
+abbrev pub is_unterminated : StripForm → ℕ → List Bool → Bool
+is_unterminated form i rest =
     (has_eols form.coding && nat_lt (i + 1) form.rows)
     && is_in_code (next_one 0 rest)
 
--- what becomes of n rows that follow one that is lost for this cause: the first of them is due at
+-- what becomes of n rows that follow one that is lost for this cause: the first of them begins at
 -- the next EOL; where none is left all are lost
 abbrev pub from_eol : ℕ → StripForm
     → (Option StripFault → List Colour → List Bool → List SalvagedRow) → StripFault
     → Option (List Bool) → List SalvagedRow
 from_eol n form more fault None = replicate n (lost fault)
-from_eol n form more fault (Some due) = more (Some fault) (white_row form.width) due
+from_eol n form more fault (Some upcoming) = more (Some fault) (white_row form.width) upcoming
 
 -- what becomes of the n rows after row i, which is lost for this cause
 abbrev pub after_lost : ℕ → StripForm → ℕ → List Bool
@@ -65,7 +66,7 @@ abbrev pub after_lost : ℕ → StripForm → ℕ → List Bool
     → List SalvagedRow
 after_lost n form i b more fault =
     from_eol n form more fault
-    (next_due form.coding (sought_from b (read_start form.coding i b)))
+    (resync_point form.coding (resync_from b (read_start form.coding i b)))
 
 -- what becomes of row i, which is read so, and of the n rows after it
 abbrev pub row_and_more : ℕ → StripForm → ℕ → List Bool
@@ -73,7 +74,7 @@ abbrev pub row_and_more : ℕ → StripForm → ℕ → List Bool
     → Read (List Colour) StripFault → List SalvagedRow
 row_and_more n form i b more (failed fault) = lost fault ∷ after_lost n form i b more fault
 row_and_more n form i b more (read row rest) =
-    if lacks_eol form i rest then unended row ∷ after_lost n form i b more MissingEol
+    if is_unterminated form i rest then unended row ∷ after_lost n form i b more MissingEol
     else found row ∷ more None row rest
 
 -- what becomes of n rows from row i on
@@ -101,15 +102,15 @@ before_rows row more = (row ∷ more.0, more.1)
 abbrev pub uncounted_from_eol : ℕ → StripForm
     → (Option StripFault → List Colour → List Bool → RowsAndEnd) → StripFault
     → Option (List Bool) → RowsAndEnd
-uncounted_from_eol (suc n) form more fault (Some due) =
-    more (Some fault) (white_row form.width) due
+uncounted_from_eol (suc n) form more fault (Some upcoming) =
+    more (Some fault) (white_row form.width) upcoming
 uncounted_from_eol _ form more fault _ = ([], Fault fault)
 
 abbrev pub uncounted_after_lost : ℕ → StripForm → ℕ → List Bool
     → (Option StripFault → List Colour → List Bool → RowsAndEnd) → StripFault → RowsAndEnd
 uncounted_after_lost n form i b more fault =
     uncounted_from_eol n form more fault
-    (next_due form.coding (sought_from b (read_start form.coding i b)))
+    (resync_point form.coding (resync_from b (read_start form.coding i b)))
 
 -- what becomes of row i, which is read so, and of those after it
 abbrev pub uncounted_row : ℕ → StripForm → ℕ → List Bool
@@ -118,11 +119,11 @@ abbrev pub uncounted_row : ℕ → StripForm → ℕ → List Bool
 uncounted_row n form i b more (failed fault) =
     before_rows (lost fault) (uncounted_after_lost n form i b more fault)
 uncounted_row n form i b more (read row rest) =
-    if lacks_eol form i rest
+    if is_unterminated form i rest
     then before_rows (unended row) (uncounted_after_lost n form i b more MissingEol)
     else before_rows (found row) (more None row rest)
 
--- the rows end so before one that is due, or it is read, where they do not
+-- the rows end so before one that is expected, or it is read, where they do not
 abbrev pub end_or_row : RowsEnd → RowsAndEnd → RowsAndEnd
 end_or_row TooMany row = row
 end_or_row end row = ([], end)
@@ -136,7 +137,7 @@ salvage_uncounted (suc n) form i before reference b =
     (uncounted_row n form i b (λ lost row rest. salvage_uncounted n form (i + 1) lost row rest)
     (read_over form i before reference b))
 
--- what is left of rows that nobody counted: the form has as many rows as there may be
+-- what is left of rows of a strip of unknown height: the form has as many rows as there may be
 abbrev pub salvage_rows_and_end : StripForm → List Bool → RowsAndEnd
 salvage_rows_and_end form b =
     salvage_uncounted form.rows form 0 None (white_row form.width) b

@@ -1,5 +1,5 @@
--- How rows end that nobody counted, by a function (T.4, sections 4.1.3, 4.1.4 and 4.2.4; T.6,
--- End-of-facsimile block; the rest is this project's profile).
+-- How the rows of a strip of unknown height end, by a function (T.4, sections 4.1.3, 4.1.4 and
+-- 4.2.4; T.6, End-of-facsimile block; the rest is this project's profile).
 use Rattle.std.specs.Prelude.{ℕ, zero, suc, Bool, true, false, is_some, List, ◌∷◌}
 use Rattle.std.specs.Prelude.{Option, Some, None}
 use Rattle.fax_page.specs.declared.Coding.{Coding}
@@ -41,19 +41,19 @@ ends _ = false
 
 -- after so many rows, and at least one, nothing is left but fill
 abbrev pub has_data_end : ℕ → List Bool → Bool
-has_data_end zero left = false
-has_data_end (suc row) left = ends (next_one 0 left)
+has_data_end zero remaining = false
+has_data_end (suc row) remaining = ends (next_one 0 remaining)
 
--- how so many rows end, by what is left where the next one is due, and by the fault in its way
+-- how so many rows end, by what is left where the next one begins, and by the fault in its way
 abbrev pub end_by_stop : Option StripFault → RowsEnd
 end_by_stop None = TooMany
 end_by_stop (Some fault) = Fault fault
 
 abbrev pub rows_end : Coding → ℕ → List Bool → Option StripFault → RowsEnd
-rows_end coding row left stop =
-    elim (has_end_mark coding left) [
+rows_end coding row remaining stop =
+    elim (has_end_mark coding remaining) [
       | true ↦ Marked
-      | false ↦ elim (has_data_end row left) [
+      | false ↦ elim (has_data_end row remaining) [
         | true ↦ DataEnd
         | false ↦ end_by_stop stop
       ]

@@ -17,16 +17,16 @@ EndsAs reader P =
     (the_row (record { mir = named 1; lft = [] }))
     reader.ghost_name none (λ _ _. ⊤) P
 
--- the row that was due is lent, or there is no more, or the fault is told
+-- the next row is lent, or there is no more, or the fault is reported
 abbrev pub IsNextRow : StripState → Result (Option (Bor (List Colour))) StripFault → StripState
     → Type 0
 IsNextRow old (Ok (Some row)) new = ReadsRow old new × (row.now ≡ new.reference)
 IsNextRow old (Ok None) new = IsAtEnd old new
 IsNextRow old (Err fault) new = TellsAgain old fault new ⊎ MeetsFault old fault new
 
--- the row that is due in a strip has these pels
+-- the next row in a strip has these pels
 pub record IsDue (state : StripState) (pels : List Colour) : Type 0 where
   pub no_fault : state.fault ≡ None
-  pub due : state.row < state.form.rows
+  pub upcoming : state.row < state.form.rows
   pub rest : List Bool
   pub line : IsLine state.form state.row state.reference (bits_left state) pels rest

@@ -8,13 +8,13 @@ use Rattle.fax_page.specs.declared.StripFault.{StripFault}
 use Rattle.fax_rows.specs.Rows.{runs_of}
 use Rattle.fax_page.specs.declared.PlaceFault.{PlaceFault}
 use Rattle.fax_page.specs.declared.PlaceFault.TheVariants.{Memory, Outside}
-use Rattle.fax_page.specs.declared.RowBefore.{RowBefore}
-use Rattle.fax_page.specs.declared.RowBefore.TheVariants.{Runs, White}
+use Rattle.fax_page.specs.declared.ReferenceRow.{ReferenceRow}
+use Rattle.fax_page.specs.declared.ReferenceRow.TheVariants.{Runs, White}
 use Rattle.fax_page.specs.Lines.{IsLine, IsCause, white_row}
 
--- how far a strip is read: its form and its bytes, the place in bits and the number of the row that
--- is due, how many rows the reader answered, over all its strips, the row before the one that is
--- due, and the fault that was answered
+-- how far a strip is read: its form and its bytes, the place in bits and the number of the next
+-- row, how many rows the reader answered, over all its strips, the row before the next one, and the
+-- fault that was returned
 pub record StripState : Type 0 where
   pub form : StripForm
   pub bytes : List ℕ
@@ -24,7 +24,7 @@ pub record StripState : Type 0 where
   pub reference : List Colour
   pub fault : Option StripFault
 
--- the bits from the row that is due on
+-- the bits from the next row on
 abbrev pub bits_left : StripState → List Bool
 bits_left state = drop state.place (bits state.form.order state.bytes)
 
@@ -62,13 +62,13 @@ restarted_at old bytes rows i place reference = record {
 }
 
 -- a row of a width is the one before a place
-abbrev pub IsBefore : ℕ → RowBefore → List Colour → Type 0
+abbrev pub IsBefore : ℕ → ReferenceRow → List Colour → Type 0
 IsBefore width White row = row ≡ white_row width
 IsBefore width (Runs runs) row = (length row ≡ width) × (runs_of row ≡ runs.now)
 
 -- before row i of the bytes, which are a reader's first, after so many bits, with this row before
 -- it; or there is no such place, or memory was refused
-abbrev pub IsBegunInside : StripForm → List ℕ → ℕ → ℕ → RowBefore
+abbrev pub IsBegunInside : StripForm → List ℕ → ℕ → ℕ → ReferenceRow
     → Result StripState PlaceFault → Type 0
 IsBegunInside form bytes i place before (Ok state) =
     (place ≤ 8 * length bytes) × IsBefore form.width before state.reference
@@ -82,15 +82,15 @@ IsBegunInside form bytes i place before (Err Memory) =
 abbrev pub counted : ℕ → ℕ
 counted read = min (read + 1) 18446744073709551615
 
--- how many rows were read, where so many were read before this strip was begun at a row of it, up
+-- how many rows were read, where so many were read before this strip was started at a row of it, up
 -- to the greatest number of 64 bits
 abbrev pub rows_read : ℕ → ℕ → ℕ → ℕ
-rows_read before begun row = min (before + (row - begun)) 18446744073709551615
+rows_read before origin row = min (before + (row - origin)) 18446744073709551615
 
--- the row that was due is read, and the next one is due
+-- the next row is read, and the one after it comes next
 pub record ReadsRow (old new : StripState) : Type 0 where
   pub no_fault : old.fault ≡ None
-  pub due : old.row < old.form.rows
+  pub upcoming : old.row < old.form.rows
   pub line : IsLine old.form old.row old.reference (bits_left old) new.reference (bits_left new)
   pub next_row : new.row ≡ old.row + 1
   pub read : new.read ≡ counted old.read
@@ -105,14 +105,14 @@ pub record IsAtEnd (old new : StripState) : Type 0 where
   pub all_read : old.row ≡ old.form.rows
   pub unchanged : new ≡ old
 
--- the row that was due is not there, for this cause, and nothing else changes
+-- the next row is not there, for this cause, and nothing else changes
 pub record MeetsFault (old : StripState) (fault : StripFault) (new : StripState) : Type 0 where
   pub no_fault : old.fault ≡ None
-  pub due : old.row < old.form.rows
+  pub upcoming : old.row < old.form.rows
   pub cause : IsCause old.form old.row old.reference (bits_left old) fault
   pub told : new ≡ record old { fault = Some fault }
 
--- the fault was answered before, and nothing changes
+-- the fault was returned before, and nothing changes
 pub record TellsAgain (old : StripState) (fault : StripFault) (new : StripState) : Type 0 where
   pub told : old.fault ≡ Some fault
   pub unchanged : new ≡ old

@@ -1,6 +1,5 @@
--- The limits of a strip, how a strip without notes is told, and what is found in rows that nobody
--- counted.
--- A definition without a citation is this project's profile.
+-- The limits of a strip, how a strip without notes is reported, and what is found in rows of a
+-- strip of unknown height. A definition without a citation is this project's profile.
 use Rattle.std.specs.Prelude.{◌≡◌, ◌≢◌, ◌<◌, ◌≤◌, ◌^◌, Bool, true, List, length, Option, Some, ⊤}
 use Rattle.fax_bits.specs.declared.Colour.{Colour}
 use Rattle.fax_page.specs.declared.Coding.TheVariants.{Mmr}
@@ -25,8 +24,8 @@ pub record IsStripForm (form : StripForm) : Type 0 where
 -- the bits are a strip with these rows and this end
 pub record IsStrip (form : StripForm) (b : List Bool) (rows : List (List Colour))
     (end : Option StripFault) : Type 0 where
-  pub left : List Bool
-  pub lines : AreLines form 0 (white_row form.width) b rows end left
+  pub remaining : List Bool
+  pub lines : AreLines form 0 (white_row form.width) b rows end remaining
 
 -- a strip has no notes: this row of it cannot be read. Of want of memory nothing is said
 abbrev pub IsNotesFault : StripForm → List Bool → NotesFault → Type 0
@@ -34,8 +33,8 @@ IsNotesFault form b Memory = ⊤
 IsNotesFault form b (Strip row fault) =
     (rows : List (List Colour)) × (length rows ≡ row) × IsStrip form b rows (Some fault)
 
--- so many rows that nobody counted are in the bits, they end so, and these are the notes on them as
--- on a strip of so many rows
+-- so many rows of a strip of unknown height are in the bits, they end so, and these are the notes
+-- on them as on a strip of so many rows
 pub record IsNotedUncounted (form : StripForm) (b : List Bool) (rows : List (List Colour))
     (found : UncountedNotes) : Type 0 where
   pub count : found.rows ≡ length rows

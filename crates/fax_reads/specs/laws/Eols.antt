@@ -8,7 +8,7 @@ use Rattle.fax_page.specs.declared.StripForm.{StripForm}
 use Rattle.fax_bits.specs.Reading.{read}
 use Rattle.fax_page.specs.declared.Dimension.{Dimension}
 use Rattle.fax_page.specs.Lines.{IsLine, ends_line, next_one, read_start}
-use Rattle.fax_page.specs.Salvage.{AreSalvaged, IsEolDue, SalvagedRow, after_eol, found}
+use Rattle.fax_page.specs.Salvage.{AreSalvaged, NeedsEol, SalvagedRow, after_eol, found}
 
 -- the codes of a row hold no EOL, and none begins among them and ends after them where one follows:
 -- the first from the row's first code on is that one
@@ -22,13 +22,13 @@ pub record RowsHoldNoEol : Type 0 where
       → IsLine form i reference b row rest → read_start form.coding i b ≡ read dimension codes
       → next_one 0 rest ≡ ends_line after → after_eol 0 codes ≡ Some after
 
--- a row that is found, and after which an EOL is due, reaches from its own EOL to the next one, or
--- nothing but zeros follows it
+-- a row that is found, and after which an EOL is expected, reaches from its own EOL to the next
+-- one, or nothing but zeros follows it
 abbrev pub FoundRowsReachToTheNextEol : Type 0
 FoundRowsReachToTheNextEol =
     (form : StripForm) (i : ℕ) (before : Option StripFault) (reference : List Colour)
     (b : List Bool) (row : List Colour) (rows : List SalvagedRow)
-    → AreSalvaged form i before reference b (found row ∷ rows) → IsEolDue form i
+    → AreSalvaged form i before reference b (found row ∷ rows) → NeedsEol form i
     → (rest : List Bool) × IsLine form i reference b row rest
     × (IsAllZeros rest
     ⊎ ((after : List Bool) × (next_one 0 rest ≡ ends_line after)

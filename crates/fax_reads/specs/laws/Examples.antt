@@ -42,36 +42,41 @@ form coding width rows = record {
 
 -- what is read of a strip: these rows, this end, and these bits that are left
 abbrev pub reading : List (List ℕ) → Option StripFault → List ℕ → StripRead
-reading rows end left = record { rows = map pels rows; end = end; left = spelled left }
+reading rows end remaining = record {
+  rows = map pels rows;
+  end = end;
+  remaining = spelled remaining;
+}
 
 -- a strip of so many rows of 8 pels has all of them, and these bits are left
 abbrev pub Has : Coding → List ℕ → List (List ℕ) → List ℕ → Type 0
-Has coding text rows left =
-    read_strip (form coding 8 (length rows)) (spelled text) ≡ reading rows None left
+Has coding text rows remaining =
+    read_strip (form coding 8 (length rows)) (spelled text) ≡ reading rows None remaining
 
--- a strip of 8 pels has these rows, and this fault is in the way of one more, which is due at these
--- bits
+-- a strip of 8 pels has these rows, and this fault is in the way of one more, which is expected at
+-- these bits
 abbrev pub Stops : Coding → List ℕ → List (List ℕ) → StripFault → List ℕ → Type 0
-Stops coding text rows fault left =
-    read_strip (form coding 8 (length rows + 1)) (spelled text) ≡ reading rows (Some fault) left
+Stops coding text rows fault remaining =
+    read_strip (form coding 8 (length rows + 1)) (spelled text)
+    ≡ reading rows (Some fault) remaining
 
 -- the bytes of a strip of 8 pels, whose bits are in this order, have these rows, and these bits are
 -- left
 abbrev pub HasBytes : Coding → FillOrder → List ℕ → List (List ℕ) → List ℕ → Type 0
-HasBytes coding order bytes rows left =
-    read_strip (form coding 8 (length rows)) (bits order bytes) ≡ reading rows None left
+HasBytes coding order bytes rows remaining =
+    read_strip (form coding 8 (length rows)) (bits order bytes) ≡ reading rows None remaining
 
 -- the bits are one row in MH of so many pels of one colour, and no more
 abbrev pub IsLongRun : ℕ → List ℕ → Colour → Type 0
 IsLongRun width text colour =
     read_strip (form Mh width 1) (spelled text)
-    ≡ record { rows = replicate width colour ∷ []; end = None; left = [] }
+    ≡ record { rows = replicate width colour ∷ []; end = None; remaining = [] }
 
--- how many rows of 8 pels that nobody counted these bits have, and how they end
+-- how many rows of 8 pels of unknown number these bits have, and how they end
 abbrev pub ending : Coding → List ℕ → ℕ × RowsEnd
 ending coding text =
     let read = read_strip (form coding 8 most_rows) (spelled text) in
-    (length read.rows, rows_end coding (length read.rows) read.left read.end)
+    (length read.rows, rows_end coding (length read.rows) read.remaining read.end)
 
 -- they are so many, and end so
 abbrev pub Ends : Coding → List ℕ → ℕ → RowsEnd → Type 0
@@ -226,7 +231,7 @@ pub record AreStripsOfMmr : Type 0 where
   pub lowest_bit_first : HasBytes Mmr LsbFirst (0x8c ∷ 0x83 ∷ 0x1c ∷ 0x03 ∷ [])
       (codes "WWWBBWWW" ∷ codes "BBBBBBWW" ∷ codes "WWWWWWWW" ∷ []) (codes "000000")
 
--- how rows end that nobody counted
+-- how the rows of a strip of unknown height end
 pub record AreEnds : Type 0 where
   pub mh_return_to_control : Ends Mh
       (codes "000000000001 10011 000000000001 000000000001 000000000001"

@@ -14,7 +14,7 @@ use Rattle.fax_files.specs.declared.FileFault.TheVariants.{DirectoryLoop, Missin
 use Rattle.fax_files.specs.declared.FileFault.TheVariants.{Unsupported, OutOfLimits, StripOutside}
 use Rattle.fax_files.specs.Layout.{WrittenField, field_bytes, field_of, four, two}
 use Rattle.fax_walk.specs.declared.end.End.{End}
-use Rattle.fax_walk.specs.declared.end.End.TheVariants.{Proper, Fault}
+use Rattle.fax_walk.specs.declared.end.End.TheVariants.{EndOfPages, Fault}
 use Rattle.fax_walk.specs.Pages.{AreForms, File, FormItem, Strip}
 use Rattle.fax_walk.specs.Items.{AreItems, RowItem}
 use Rattle.fax_reads.specs.laws.Examples.{pels}
@@ -210,24 +210,25 @@ big_endian =
 
 -- files that end properly
 pub record AreWholeFiles : Type 0 where
-  pub page : HasRows (page_before 0) (white_at 0 0 ∷ []) Proper
-  pub highest_byte_first : HasRows big_endian (white_at 0 0 ∷ []) Proper
+  pub page : HasRows (page_before 0) (white_at 0 0 ∷ []) EndOfPages
+  pub highest_byte_first : HasRows big_endian (white_at 0 0 ∷ []) EndOfPages
   pub two_pages : HasRows (page_before 87 ++ directory page_fields 0)
-      (white_at 0 0 ∷ white_at 1 0 ∷ []) Proper
-  pub strips : HasRows (two_strips 98) (white_at 0 0 ∷ white_at 0 1 ∷ []) Proper
-  pub exchanged : HasRows (page_with (short 262 1)) (spelled_row 0 0 (codes "BBBBBBBB") ∷ []) Proper
+      (white_at 0 0 ∷ white_at 1 0 ∷ []) EndOfPages
+  pub strips : HasRows (two_strips 98) (white_at 0 0 ∷ white_at 0 1 ∷ []) EndOfPages
+  pub exchanged : HasRows (page_with (short 262 1)) (spelled_row 0 0 (codes "BBBBBBBB")
+      ∷ []) EndOfPages
   pub lowest_bit_first : HasRows (worked_file (short 266 2 ∷ with (short 273 98) page_fields)
       (0x01 ∷ []))
-      (white_at 0 0 ∷ []) Proper
+      (white_at 0 0 ∷ []) EndOfPages
   pub one_dimensional : HasRows (worked_file (with (short 259 3) page_fields) (0x98 ∷ []))
-      (white_at 0 0 ∷ []) Proper
+      (white_at 0 0 ∷ []) EndOfPages
   pub two_dimensional : HasRows
       (worked_file (short 292 1 ∷ with (short 259 3) (with (short 273 98)
       (with (short 279 2) page_fields))) (0x00 ∷ 0x14 ∷ []))
-      (white_at 0 0 ∷ []) Proper
+      (white_at 0 0 ∷ []) EndOfPages
   pub first_entry_counts : HasRows
       (worked_file (with (short 273 98) page_fields ++ short 256 9 ∷ []) same_row)
-      (white_at 0 0 ∷ []) Proper
+      (white_at 0 0 ∷ []) EndOfPages
 
 -- the file samples/one-mh-page.tif
 abbrev pub sample : List ℕ
@@ -244,7 +245,7 @@ sample =
 -- it has one page of one row
 pub record IsSampleRead : Type 0 where
   pub bytes : length sample ≡ 226
-  pub rows : HasRows sample (spelled_row 0 0 (codes "WWWBBWWW") ∷ []) Proper
+  pub rows : HasRows sample (spelled_row 0 0 (codes "WWWBBWWW") ∷ []) EndOfPages
   pub forms : HasForms sample
       (record {
         page = 0;
@@ -261,7 +262,7 @@ pub record IsSampleRead : Type 0 where
           y = (196, 1);
           unit = 2;
         };
-      } ∷ []) Proper
+      } ∷ []) EndOfPages
 
 -- all of them
 pub record AreFilesRead : Type 0 where

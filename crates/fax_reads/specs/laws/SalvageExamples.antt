@@ -14,16 +14,16 @@ use Rattle.fax_page.specs.Salvage.{SalvagedRow, found, lost, unended}
 use Rattle.fax_page.specs.Strip.{most_rows}
 use Rattle.fax_files.specs.declared.FileFault.TheVariants.{OutOfLimits, StripOutside}
 use Rattle.fax_walk.specs.Pages.{File, Strip}
-use Rattle.fax_walk.specs.Salvaged.{IsSalvaged, LeftItem, page_refused, row_found, rows_lost}
+use Rattle.fax_walk.specs.Salvaged.{IsSalvaged, SalvagedItem, page_refused, row_found, rows_lost}
 use Rattle.fax_reads.specs.laws.Examples.{form, pels}
 use Rattle.fax_reads.specs.laws.FileExamples.{sample, spelled_bytes}
 
 -- row r of page p is found, with pels that a text spells
-abbrev pub row_left : ℕ → ℕ → List ℕ → LeftItem
+abbrev pub row_left : ℕ → ℕ → List ℕ → SalvagedItem
 row_left p r text = row_found p r (pels text)
 
 -- of this file these are left
-pub record HasLeft (file : List ℕ) (items : List LeftItem) : Type 0 where
+pub record HasLeft (file : List ℕ) (items : List SalvagedItem) : Type 0 where
   pub are : IsSalvaged file items
 
 -- the file tests/runs/damaged/raw-pbm-by-another-name.tif
@@ -267,12 +267,12 @@ page_of_width_0_between_two =
     ++ codes " 0000 2801 0300 0100 0000 0200 0000 2901 0300 0200 0000 0200 0300 0000"
     ++ codes " 0000 cc00 0000 0100 0000 c400 0000 0100 0000")
 
--- rows of eight pels that nobody counted, in these bytes, are left so, and end so
+-- rows of eight pels of unknown number, in these bytes, are left so, and end so
 pub record HasLeftUncounted (coding : Coding) (bytes : List ℕ) (rows : List SalvagedRow)
     (end : RowsEnd) : Type 0 where
   pub are : IsLeftUncounted (form coding 8 most_rows) (bits MsbFirst bytes) rows end
 
--- worked rows that nobody counted
+-- worked rows of a strip of unknown height
 pub record AreUncountedLeft : Type 0 where
   pub bad_code_between_two_rows : HasLeftUncounted Mh (spelled_bytes (codes "0019 8008 0380 0c70"))
       (found (pels (codes "WWWWWWWW")) ∷ lost BadCode ∷ found (pels (codes "WWWBBWWW")) ∷ [])

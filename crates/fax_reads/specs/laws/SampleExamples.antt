@@ -2,7 +2,7 @@
 use Rattle.std.specs.Prelude.{ℕ, ◌+◌, List, [], ◌∷◌, ◌++◌, codes, replicate, take}
 use Rattle.fax_bits.specs.declared.Colour.{Colour}
 use Rattle.fax_page.specs.declared.StripFault.TheVariants.{DataEnds, OutOfRow}
-use Rattle.fax_walk.specs.declared.end.End.TheVariants.{Proper, Fault}
+use Rattle.fax_walk.specs.declared.end.End.TheVariants.{EndOfPages, Fault}
 use Rattle.fax_walk.specs.Pages.{Strip}
 use Rattle.fax_reads.specs.laws.FileExamples.{HasRows, spelled_row, spelled_bytes}
 
@@ -156,12 +156,12 @@ three_rows = codes "WWWBBWWW" ∷ codes "BBBBBBWW" ∷ codes "WWWWWWWW" ∷ []
 
 -- each sample has its rows
 pub record AreSamplesRead : Type 0 where
-  pub run_of_64 : HasRows make_up_code (spelled_row 0 0 (replicate 64 87) ∷ []) Proper
-  pub control : HasRows return_to_control (spelled_row 0 0 (codes "WWWBBWWW") ∷ []) Proper
-  pub black : HasRows row_begins_black (spelled_row 0 0 (codes "BBBBBBBB") ∷ []) Proper
+  pub run_of_64 : HasRows make_up_code (spelled_row 0 0 (replicate 64 87) ∷ []) EndOfPages
+  pub control : HasRows return_to_control (spelled_row 0 0 (codes "WWWBBWWW") ∷ []) EndOfPages
+  pub black : HasRows row_begins_black (spelled_row 0 0 (codes "BBBBBBBB") ∷ []) EndOfPages
   pub missing : HasRows second_row_missing (spelled_row 0 0 (codes "WWWBBWWW") ∷ [])
       (Fault 0 1 (Strip DataEnds))
-  pub mmr_rows : HasRows three_mmr_rows (spelled_rows 0 0 three_rows) Proper
+  pub mmr_rows : HasRows three_mmr_rows (spelled_rows 0 0 three_rows) EndOfPages
   pub pages : HasRows three_pages
       (spelled_row 0 0 (codes "WWWBBWWW") ∷ spelled_rows 1 0 three_rows
       ++ spelled_row 2 0 (codes "WWWBBWWW") ∷ [])

@@ -18,8 +18,8 @@ pub record Places : Type 0 where
   pub b1 : ℕ
   pub b2 : ℕ
 
-abbrev pub places : List Colour → List Colour → Option ℕ → Places
-places reference row a0 = record {
+abbrev pub changes : List Colour → List Colour → Option ℕ → Places
+changes reference row a0 = record {
   a1 = next_change row a0;
   a2 = next_change row (Some (next_change row a0));
   b1 = b1 reference a0 (colour_of row a0);
@@ -28,8 +28,8 @@ places reference row a0 = record {
 
 -- the mode that is written (T.4, section 4.2.1.3.2): pass where b2 is left of a1, else vertical
 -- where a1 and b1 differ by at most 3, else horizontal
-abbrev pub chosen_mode : Places → ModeCode
-chosen_mode at =
+abbrev pub canonical_mode : Places → ModeCode
+canonical_mode at =
     if nat_lt at.b2 at.a1 then Pass
     else (if nat_le (nat_abs (pos at.a1 -ℤ pos at.b1)) 3 then Vertical (pos at.a1 -ℤ pos at.b1)
     else Horizontal)

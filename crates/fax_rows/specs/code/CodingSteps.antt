@@ -2,7 +2,7 @@
 -- reader trusts is how rows are read (ReadRows). The sections are those of T.4.
 use Rattle.std.specs.Prelude.{◌≡◌, ℕ, ◌+◌, ◌≤◌, ◌⊎◌, ℤ, pos, ◌+ℤ◌, ◌<ℤ◌, ◌≤ℤ◌, Bool, List, ◌++◌}
 use Rattle.std.specs.Prelude.{length, replicate, Some}
-use Rattle.fax_bits.specs.Codes.{IsRun, Takes}
+use Rattle.fax_bits.specs.Codes.{IsRun, Decodes}
 use Rattle.fax_bits.specs.Reading.{failed}
 use Rattle.fax_bits.specs.Tables.{modes}
 use Rattle.fax_bits.specs.declared.codes.CodeEntry.{CodeEntry}
@@ -56,7 +56,7 @@ pub record IsStep (reference : List Colour) (old : Position) (b : List Bool) (ne
     (rest : List Bool) : Type 0 where
   pub mode : ModeCode
   pub after : List Bool
-  pub taken : Takes modes b mode after
+  pub taken : Decodes modes b mode after
   pub step : IsStepBy mode reference old after new rest
 
 -- no code of the table begins the bits, and this is the row's fault for it
@@ -84,5 +84,5 @@ IsModeFault mode.Extension reference at b why = why ≡ fault.Extension
 abbrev pub IsStepFault : List Colour → Position → List Bool → RowFault → Type 0
 IsStepFault reference at b fault =
     IsCodeFault modes b fault
-    ⊎ ((m : ModeCode) × (after : List Bool) × Takes modes b m after
+    ⊎ ((m : ModeCode) × (after : List Bool) × Decodes modes b m after
     × IsModeFault m reference at after fault)

@@ -4,7 +4,7 @@ use Rattle.std.specs.Prelude.{slice_index}
 use Rattle.std.specs.Int.{bit_at}
 use Rattle.fax_bits.specs.declared.Colour.{Colour}
 use Rattle.fax_bits.specs.declared.Colour.TheVariants.{White, Black}
-use Rattle.fax_rows.specs.Rows.{same_colour, first_place}
+use Rattle.fax_rows.specs.Rows.{same_colour, first_index}
 use Rattle.fax_rows.specs.Coded.{colour_of_bit}
 
 -- bit i of a byte, the highest first, is not of the colour
@@ -13,7 +13,7 @@ is_other_bit byte colour i = not (same_colour (colour_of_bit (bit_at byte (7 - i
 
 -- the least place from this one on whose bit in a byte is not of the colour, or 8
 unfoldable pub first_other_in_byte : ℕ → ℕ → Colour → ℕ
-first_other_in_byte byte from colour = first_place (is_other_bit byte colour) from (8 - from)
+first_other_in_byte byte from colour = first_index (is_other_bit byte colour) from (8 - from)
 
 -- the bits of a byte that are not of the colour, as 1
 abbrev pub others : ℕ → Colour → ℕ

@@ -4,10 +4,10 @@ use Rattle.std.specs.Prelude.{slice_index, slice_index_or}
 use Rattle.std.specs.Int.{bit_at}
 use Rattle.fax_bits.specs.declared.Colour.{Colour}
 use Rattle.fax_bits.specs.declared.Colour.TheVariants.{Black}
-use Rattle.fax_rows.specs.declared.placed_rows.PlacedRow.{PlacedRow}
+use Rattle.fax_rows.specs.declared.change_list.ChangingElements.{ChangingElements}
 use Rattle.fax_rows.specs.Coded.{is_black}
-use Rattle.fax_rows.specs.code.PlacedRow.{placed_pels}
-use Rattle.fax_rows.specs.code.Turns.{alternate}
+use Rattle.fax_rows.specs.code.ChangingElements.{element_pels}
+use Rattle.fax_rows.specs.code.ChangeLists.{alternate}
 
 -- bit i of a word, the highest first
 abbrev pub word_bit : ℕ → ℕ → Bool
@@ -26,11 +26,11 @@ IsPackedByte row from byte =
 
 -- the places that are passed stand in a word, of which the pels left of the last of them are right,
 -- and the others have the colour after it
-pub record IsWordTo (row : PlacedRow) (from word passed : ℕ) : Type 0 where
+pub record IsWordTo (row : ChangingElements) (from word passed : ℕ) : Type 0 where
   pub some : 0 < passed
   pub within : passed ≤ row.end
-  pub ahead : passed < row.end → from ≤ slice_index row.places.now passed
-  pub before : (i : ℕ) → i < 64 → from + i < slice_index row.places.now (passed - 1)
-      → word_bit word i ≡ slice_index_or (map is_black (placed_pels row)) (from + i) false
-  pub after : (i : ℕ) → i < 64 → slice_index row.places.now (passed - 1) ≤ from + i
+  pub ahead : passed < row.end → from ≤ slice_index row.changes.now passed
+  pub before : (i : ℕ) → i < 64 → from + i < slice_index row.changes.now (passed - 1)
+      → word_bit word i ≡ slice_index_or (map is_black (element_pels row)) (from + i) false
+  pub after : (i : ℕ) → i < 64 → slice_index row.changes.now (passed - 1) ≤ from + i
       → word_bit word i ≡ is_black (alternate Black passed)

@@ -6,14 +6,15 @@ use Rattle.fax_rows.specs.Rows.{is_right_of}
 -- the places from the index `end` on are those of a1 in vertical modes, over the changes of the
 -- reference row from the index b on: each is right of the one before, not left of the change before
 -- its b1, and left of the change after it (T.4, section 4.2.1.3.2)
-abbrev pub AreFine : List ℕ → List ℕ → Option ℕ → ℕ → ℕ → List ℕ → Type 0
-AreFine others places a0 end b [] = Unit {0}
-AreFine others places a0 end b (raised ∷ raises) =
-    (is_right_of a0 (slice_index places end) ≡ true)
-    × (slice_index places end + 3 ≡ slice_index others b + raised)
-    × (slice_index others (b - 1) ≤ slice_index places end)
-    × (slice_index places end < slice_index others (b + 1))
-    × AreFine others places (Some (slice_index places end)) (end + 1) (b + 1) raises
+abbrev pub AreVerticalTargets : List ℕ → List ℕ → Option ℕ → ℕ → ℕ → List ℕ → Type 0
+AreVerticalTargets others changes a0 end b [] = Unit {0}
+AreVerticalTargets others changes a0 end b (raised ∷ biased_offsets) =
+    (is_right_of a0 (slice_index changes end) ≡ true)
+    × (slice_index changes end + 3 ≡ slice_index others b + raised)
+    × (slice_index others (b - 1) ≤ slice_index changes end)
+    × (slice_index changes end < slice_index others (b + 1))
+    × AreVerticalTargets others changes (Some (slice_index changes end)) (end + 1) (b + 1)
+    biased_offsets
 
 -- four lanes, none of which has its highest bit
 pub record AreFour (lanes : List ℕ) : Type 0 where

@@ -3,18 +3,18 @@
 ghost use Rattle.std.specs.Prelude.{◌+◌, ◌≤◌, ◌<◌, ◌^◌, Bool, List, true, length};
 ghost use Rattle.std.specs.Prelude.{OnOk, IfOk, IfErr, IfSome};
 ghost use Rattle.fax_bits.specs.views.Source.{KeepsEnd};
-ghost use Rattle.fax_rows.specs.code.Due.{AreReadRuns, AreRunsDue};
+ghost use Rattle.fax_rows.specs.code.NeedsTable.{AreReadRuns, AreRunsNeeded};
 ghost use Rattle.fax_rows.specs.code.RowFaults.{IsPairFault};
 ghost use Rattle.fax_rows.specs.code.RowStop.{IsStopOf};
 
-use super::choices::is_taken;
+use super::canonical::is_taken;
 use crate::RowFault;
-use crate::runs::{last_run, other};
+use crate::runs::{other, run_by_table};
 use fax_bits::{BitSource, Colour};
 
-/// What is due where no look-up finds the next code.
+/// What is expected where no look-up finds the next code.
 #[derive(Clone, Copy)]
-pub(super) enum Due {
+pub(super) enum NeedsTable {
     /// A mode.
     Mode,
     /// The two runs of horizontal mode; or the second of them, after a first one of so many pels.
@@ -43,21 +43,21 @@ impl From<RowFault> for RowStop {
 
 /// Why look-ups do not read a row on.
 #[derive(Clone, Copy)]
-pub(super) enum Unread<D> {
-    /// None of them finds what is due.
-    Due(D),
+pub(super) enum LookupExit<D> {
+    /// None of them finds what is expected.
+    NeedsTable(D),
     /// It is not read on by tables either.
     Stopped(RowStop),
 }
 
-impl<D> From<RowStop> for Unread<D> {
+impl<D> From<RowStop> for LookupExit<D> {
     ghost use Rattle.std.specs.Prelude.{◌≡◌};
-    ghost use Rattle.fax_rows.specs.declared.two_dimensional.horizontal_runs.Unread.TheVariants as Unreads;
+    ghost use Rattle.fax_rows.specs.declared.two_dimensional.horizontal_runs.LookupExit.TheVariants as Unreads;
 
     ghost from_gives = { λ stop unread. unread ≡ Unreads.Stopped stop };
 
-    fn from(stop: RowStop) -> Unread<D> {
-        Unread::Stopped(stop)
+    fn from(stop: RowStop) -> LookupExit<D> {
+        LookupExit::Stopped(stop)
     }
 }
 
@@ -69,10 +69,10 @@ pub(super) struct TwoRuns {
 }
 
 /// Reads a run of the colour whose first pel is `from` and the run of the other one after it, each
-/// by a look-up. Else it answers the first run, where that is found. `CHOICE` and `SEVERAL` part
+/// by a look-up. Else it returns the first run, where that is found. `CANONICAL` and `BATCHED` part
 /// the copies of several callers: each is written out in its one caller.
 #[inline(always)]
-pub(super) fn run_by_run<const CHOICE: bool, const SEVERAL: bool>(
+pub(super) fn run_by_run<const CANONICAL: bool, const BATCHED: bool>(
     source: &mut BitSource,
     colour: Colour,
     width: u32,
@@ -80,17 +80,17 @@ pub(super) fn run_by_run<const CHOICE: bool, const SEVERAL: bool>(
 ) -> Result<TwoRuns, Option<u32>>
     requires from { from ≤ width }
     ensures read { IfOk result
-        (λ runs. AreReadRuns true colour width from source.old.left runs source.new.left) }
-    ensures due { IfErr result
-        (λ first. AreRunsDue colour source.old.left first source.new.left) }
+        (λ runs. AreReadRuns true colour width from source.old.remaining runs source.new.remaining) }
+    ensures needed { IfErr result
+        (λ first. AreRunsNeeded colour source.old.remaining first source.new.remaining) }
     ensures fits { IfErr result (λ first. IfSome first (λ n. from + n ≤ width)) }
     ensures same_end { KeepsEnd source.old source.new }
-    ensures no_longer { length source.new.left ≤ length source.old.left }
+    ensures no_longer { length source.new.remaining ≤ length source.old.remaining }
 {
-    let Some(first) = source.run_within(colour, width - from) else {
+    let Some(first) = source.try_read_run(colour, width - from) else {
         return Err(None);
     };
-    let Some(second) = source.run_within(other(colour), width - from - first) else {
+    let Some(second) = source.try_read_run(other(colour), width - from - first) else {
         return Err(Some(first));
     };
     Ok(TwoRuns { first, second })
@@ -98,7 +98,7 @@ pub(super) fn run_by_run<const CHOICE: bool, const SEVERAL: bool>(
 
 /// What `run_by_run` does: a white run and the black one after it mostly by one look-up.
 #[inline(always)]
-pub(super) fn two_runs<const CHOICE: bool, const SEVERAL: bool>(
+pub(super) fn two_runs<const CANONICAL: bool, const BATCHED: bool>(
     source: &mut BitSource,
     colour: Colour,
     width: u32,
@@ -107,29 +107,30 @@ pub(super) fn two_runs<const CHOICE: bool, const SEVERAL: bool>(
     requires width { width < 2 ^ 16 }
     requires from { from ≤ width }
     ensures read { IfOk result
-        (λ runs. AreReadRuns true colour width from source.old.left runs source.new.left) }
-    ensures due { IfErr result
-        (λ first. AreRunsDue colour source.old.left first source.new.left) }
+        (λ runs. AreReadRuns true colour width from source.old.remaining runs source.new.remaining) }
+    ensures needed { IfErr result
+        (λ first. AreRunsNeeded colour source.old.remaining first source.new.remaining) }
     ensures fits { IfErr result (λ first. IfSome first (λ n. from + n ≤ width)) }
     ensures same_end { KeepsEnd source.old source.new }
-    ensures no_longer { length source.new.left ≤ length source.old.left }
+    ensures no_longer { length source.new.remaining ≤ length source.old.remaining }
 {
     match colour {
-        Colour::White => match source.pair_within(from, width) {
+        Colour::White => match source.try_read_run_pair(from, width) {
             Some(pair) => Ok(TwoRuns {
                 first: pair.white,
                 second: pair.black,
             }),
-            None => run_by_run::<CHOICE, SEVERAL>(source, Colour::White, width, from),
+            None => run_by_run::<CANONICAL, BATCHED>(source, Colour::White, width, from),
         },
-        Colour::Black => run_by_run::<CHOICE, SEVERAL>(source, Colour::Black, width, from),
+        Colour::Black => run_by_run::<CANONICAL, BATCHED>(source, Colour::Black, width, from),
     }
 }
 
 /// Reads the runs that `two_runs` does not find, by their tables: a run of the colour whose first
-/// pel is `from`, where it is not read, and the run of the other colour after it. With `CHOICE` it
+/// pel is `from`, where it is not read, and the run of the other colour after it. With `CANONICAL`
+/// it
 /// stops where their codes are not seen to be T.4's choice.
-pub(super) fn last_two_runs<const CHOICE: bool>(
+pub(super) fn two_runs_by_table<const CANONICAL: bool>(
     source: &mut BitSource,
     colour: Colour,
     width: u32,
@@ -139,26 +140,26 @@ pub(super) fn last_two_runs<const CHOICE: bool>(
     requires width { width < 2 ^ 16 }
     requires from { from ≤ width }
     requires fits { IfSome first (λ n. from + n ≤ width) }
-    ensures read { (b : List Bool) → AreRunsDue colour b first source.old.left
-        → IfOk result (λ runs. AreReadRuns CHOICE colour width from b runs source.new.left) }
+    ensures read { (b : List Bool) → AreRunsNeeded colour b first source.old.remaining
+        → IfOk result (λ runs. AreReadRuns CANONICAL colour width from b runs source.new.remaining) }
     ensures within { IfOk result (λ runs. from + runs.first + runs.second ≤ width) }
-    ensures stop { (b : List Bool) → AreRunsDue colour b first source.old.left
+    ensures stop { (b : List Bool) → AreRunsNeeded colour b first source.old.remaining
         → IfErr result
-        (λ stop. IsStopOf CHOICE (λ fault. IsPairFault colour width from b fault) stop) }
+        (λ stop. IsStopOf CANONICAL (λ fault. IsPairFault colour width from b fault) stop) }
     ensures same_end { KeepsEnd source.old source.new }
-    ensures shorter { OnOk result (length source.new.left < length source.old.left) }
+    ensures shorter { OnOk result (length source.new.remaining < length source.old.remaining) }
 {
-    let mut is_chosen = true;
+    let mut is_canonical = true;
     let first = match first {
         Some(first) => first,
         None => {
-            let run = last_run(source, colour, width, from)?;
-            is_chosen = run.is_chosen;
+            let run = run_by_table(source, colour, width, from)?;
+            is_canonical = run.is_canonical;
             run.pels
         }
     };
-    let second = last_run(source, other(colour), width, from + first)?;
-    if is_taken::<CHOICE>(is_chosen && second.is_chosen) {
+    let second = run_by_table(source, other(colour), width, from + first)?;
+    if is_taken::<CANONICAL>(is_canonical && second.is_canonical) {
         Ok(TwoRuns {
             first,
             second: second.pels,

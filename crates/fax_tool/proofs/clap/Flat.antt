@@ -25,7 +25,7 @@ IsFlag a = (takes_values a ≡ false) × (a.short ≡ None) × (a.short_aliases 
 abbrev pub IsFlat : List Rule → Rule → Type 0
 IsFlat c a = IsOne c a ⊎ IsFlag a
 
--- what goes on where there is no fault
+-- what continues where there is no fault
 abbrev pub guard : {A : Type 0} → Kinds → Option A → Option A
 guard [] r = r
 guard (k ∷ ks) r = None

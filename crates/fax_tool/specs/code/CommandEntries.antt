@@ -12,10 +12,11 @@ use Rattle.clap.specs.declared.parser.matches.ArgMatches.{ArgMatches}
 use Rattle.fax_files.specs.Page.{most_rows}
 use Rattle.fax_tool.specs.Grammar.{IsNumberText, most_lines}
 use Rattle.fax_tool.specs.Job.{Given, HasNoCursor, HasNoTarget}
-use Rattle.fax_tool.specs.declared.words.WordsFault.{WordsFault}
-use Rattle.fax_tool.specs.declared.words.WordsFault.TheVariants.{Memory, NotACursor, Usage}
+use Rattle.fax_tool.specs.declared.args.WordsFault.{WordsFault}
+use Rattle.fax_tool.specs.declared.args.WordsFault.TheVariants.{Memory, NotACursor, Usage}
 use Rattle.fax_tool.specs.Text.{Cursor}
-use Rattle.fax_walk.specs.Pages.{IsCursor, IsLongCursor, LongPlace, cursor_text, long_cursor_text}
+use Rattle.fax_walk.specs.Pages.{IsCursor, IsLongCursor, LongCursorValue, cursor_text}
+use Rattle.fax_walk.specs.Pages.{long_cursor_text}
 
 -- a parse reads the command as this one
 abbrev pub IsApp : Command → App → Type 0
@@ -62,7 +63,7 @@ abbrev pub IsNoCursor : Text → Type 0
 IsNoCursor text = (at : Cursor) → IsCursor at → text ≢ cursor_text at
 
 abbrev pub IsNoLongCursor : Text → Type 0
-IsNoLongCursor text = (place : LongPlace) → IsLongCursor place → text ≢ long_cursor_text place
+IsNoLongCursor text = (place : LongCursorValue) → IsLongCursor place → text ≢ long_cursor_text place
 
 -- a command's name and what is given after it give no command, but this fault
 abbrev pub IsCommandFault : Text → Given → WordsFault → Type 0

@@ -3,13 +3,13 @@ use Rattle.std.specs.Prelude.{◌≡◌, ◌≢◌, ℕ, ◌⊎◌, List, [], Op
 use Rattle.std.specs.Prelude.{Err, ◌<◌, codes}
 use Rattle.std.specs.Io.KnownBytes.{Appends}
 use Rattle.fax_walk.specs.declared.end.End.{End}
-use Rattle.fax_walk.specs.declared.end.End.TheVariants.{Proper, Fault, Outside}
+use Rattle.fax_walk.specs.declared.end.End.TheVariants.{EndOfPages, Fault, Outside}
 use Rattle.fax_walk.specs.declared.options.ConvertFault.{ConvertFault}
 use Rattle.fax_walk.specs.declared.options.ConvertFault.TheVariants.{Memory as NoRoom}
 use Rattle.fax_files.specs.Directory.{max_file}
 use Rattle.fax_tool.specs.declared.refusal.Refusal.{Refusal}
 use Rattle.fax_tool.specs.declared.refusal.Refusal.TheVariants.{Memory, Read, Write}
-use Rattle.fax_tool.specs.declared.words.Command.{Command}
+use Rattle.fax_tool.specs.declared.args.Command.{Command}
 use Rattle.fax_tool.specs.Text.{Printed, fault_line}
 use Rattle.fax_tool.specs.ReportText.{convert_fault_line}
 use Rattle.fax_tool.specs.Run.{Counts, Input, Output, HasFailed, HasReason, HasWorked, IsRead}
@@ -22,7 +22,7 @@ IsLineOf fault line = (fault ≢ NoRoom) × (line ≡ convert_fault_line fault)
 -- the error line of the end that lines had; at a limit there is none
 abbrev pub end_line : Option End → Option (List ℕ)
 end_line None = None
-end_line (Some Proper) = None
+end_line (Some EndOfPages) = None
 end_line (Some (Fault page row cause)) = Some (fault_line page row cause)
 end_line (Some Outside) = Some (codes "fault cursor: CursorOutside\n")
 

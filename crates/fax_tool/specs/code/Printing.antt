@@ -3,9 +3,9 @@ use Rattle.std.specs.Prelude.{◌≡◌, ℕ, ◌+◌, ◌<◌, ◌≤◌, Bool,
 use Rattle.std.specs.Prelude.{Some, None, IfSome, Result, Ok, Err, codes}
 use Rattle.std.specs.Io.KnownBytes.{Appends}
 use Rattle.fax_bits.specs.declared.Memory.{Memory as NoMemory}
-use Rattle.fax_walk.specs.declared.begun.Begun.{Begun}
+use Rattle.fax_walk.specs.declared.walk_start.WalkStart.{WalkStart}
 use Rattle.fax_walk.specs.declared.end.End.{End}
-use Rattle.fax_walk.specs.declared.end.End.TheVariants.{Proper, Fault, Outside}
+use Rattle.fax_walk.specs.declared.end.End.TheVariants.{EndOfPages, Fault, Outside}
 use Rattle.fax_walk.specs.declared.end.WalkFault.{WalkFault}
 use Rattle.fax_walk.specs.declared.end.WalkFault.TheVariants.{AtRow, CursorOutside}
 use Rattle.fax_walk.specs.declared.end.WalkFault.TheVariants.{Memory as NoRoom}
@@ -18,16 +18,17 @@ end_of (AtRow page row cause) = Some (Fault page row cause)
 end_of CursorOutside = Some Outside
 end_of NoRoom = None
 
--- a run begins with this that goes on after so many of such lines, which began so
-pub record IsNextAfter (tail : List PrintedLine → End → Type 0) (begun : Begun) (given : ℕ)
-    (next : Begun) : Type 0 where
+-- a run begins with this that continues after so many of such lines, which began so
+pub record IsNextAfter (tail : List PrintedLine → End → Type 0) (origin : WalkStart) (given : ℕ)
+    (next : WalkStart) : Type 0 where
   pub lines : List PrintedLine
   pub end : End
   pub is : tail lines end
   pub within : given ≤ length lines
-  pub next_is : next ≡ next_after begun (take given lines)
+  pub next_is : next ≡ next_after origin (take given lines)
 
--- line number `given` is collected, or the lines have ended after so many; where memory was refused
+-- line number `yielded` is collected, or the lines have ended after so many; where memory was
+-- refused
 -- the text is as it was
 abbrev pub IsLinePut : (List PrintedLine → End → Type 0) → ℕ → List ℕ → Result (Option End) NoMemory
     → ℕ → List ℕ → Type 0
@@ -53,16 +54,17 @@ pub record PrintsLines (tail : List PrintedLine → End → Type 0) (max : Optio
   pub ends : EndsWith lines end count max ending
   pub printed : Appends output new_output (texts_of (take count lines))
 
--- where to go on after so many of such lines, with long cursors or without
-abbrev pub IsNextLine : (List PrintedLine → End → Type 0) → Begun → ℕ → Bool → List ℕ → Type 0
-IsNextLine tail begun given long line =
-    (next : Begun) × IsNextAfter tail begun given next × (line ≡ next_line (named long next))
+-- where to continue after so many of such lines, with long cursors or without
+abbrev pub IsNextLine : (List PrintedLine → End → Type 0) → WalkStart → ℕ → Bool → List ℕ → Type 0
+IsNextLine tail origin given long line =
+    (next : WalkStart) × IsNextAfter tail origin given next × (line ≡ next_line (named long next))
 
 -- what is printed after so many of such lines where printing ended so
-abbrev pub IsLastLine : (List PrintedLine → End → Type 0) → Begun → ℕ → Bool → Option End → List ℕ
+abbrev pub IsLastLine : (List PrintedLine → End → Type 0) → WalkStart → ℕ → Bool → Option End
+    → List ℕ
     → Type 0
-IsLastLine tail begun given long None line = IsNextLine tail begun given long line
-IsLastLine tail begun given long (Some Proper) line = line ≡ codes "end\n"
-IsLastLine tail begun given long (Some (Fault page row cause)) line =
-    IsNextLine tail begun given long line
-IsLastLine tail begun given long (Some Outside) line = line ≡ []
+IsLastLine tail origin given long None line = IsNextLine tail origin given long line
+IsLastLine tail origin given long (Some EndOfPages) line = line ≡ codes "end\n"
+IsLastLine tail origin given long (Some (Fault page row cause)) line =
+    IsNextLine tail origin given long line
+IsLastLine tail origin given long (Some Outside) line = line ≡ []

@@ -1,23 +1,23 @@
--- Texts of numbers that are remembered.
+-- NumberCache of numbers that are remembered.
 use Rattle.std.specs.Prelude.{◌≡◌, ℕ, ◌+◌, ◌*◌, ◌<◌, ◌≤◌, List, ◌++◌, length, take, Some}
 use Rattle.std.specs.Prelude.{slice_get, slice_index}
 use Rattle.fax_tool.specs.Text.{and_number}
-use Rattle.fax_tool.specs.declared.text.remembered.ShortText.{ShortText}
+use Rattle.fax_tool.specs.declared.text.number_cache.CachedText.{CachedText}
 
 -- a text is this one
-pub record IsText (text : List ℕ) (kept : ShortText) : Type 0 where
+pub record IsText (text : List ℕ) (kept : CachedText) : Type 0 where
   pub eight : length kept.bytes ≡ 8
   pub few : kept.len ≤ 8
   pub is : take kept.len kept.bytes ≡ text
   pub len_is : kept.len ≡ length text
 
 -- this text is made, and stands at a place
-abbrev pub IsMadeAt : List ShortText → ℕ → ShortText → Type 0
+abbrev pub IsMadeAt : List CachedText → ℕ → CachedText → Type 0
 IsMadeAt texts place kept = (slice_get texts place ≡ Some kept) × (0 < kept.len)
 
 -- the texts that are made are those of their places' numbers
-abbrev pub AreNumbers : List ShortText → Type 0
-AreNumbers texts = (number : ℕ) (kept : ShortText) → IsMadeAt texts number kept
+abbrev pub AreNumbers : List CachedText → Type 0
+AreNumbers texts = (number : ℕ) (kept : CachedText) → IsMadeAt texts number kept
     → IsText (and_number number) kept
 
 -- eight numbers are below a limit
@@ -35,7 +35,7 @@ ArePlacesOf numbers places = (i : ℕ) → i < 4
     (slice_index places i)
 
 -- the texts that are made are those of two numbers, at 64 times the first and the second
-abbrev pub ArePairs : List ShortText → Type 0
-ArePairs texts = (first second : ℕ) (kept : ShortText) → second < 64
+abbrev pub ArePairs : List CachedText → Type 0
+ArePairs texts = (first second : ℕ) (kept : CachedText) → second < 64
     → IsMadeAt texts (64 * first + second) kept → IsText (and_number first ++ and_number second)
     kept

@@ -13,7 +13,8 @@ pub record IsOneList (are : List (List ℕ) → Type 0) : Type 0 where
   pub is : are lines
   pub one : (others : List (List ℕ)) → are others → others ≡ lines
 
--- line number `given` is collected, or the lines have ended after so many; where memory was refused
+-- line number `yielded` is collected, or the lines have ended after so many; where memory was
+-- refused
 -- the text is as it was
 abbrev pub IsLinePut : (List (List ℕ) → Type 0) → ℕ → List ℕ → Result Bool NoMemory → ℕ → List ℕ
     → Type 0

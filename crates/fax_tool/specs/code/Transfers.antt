@@ -24,7 +24,7 @@ pub record IsGivenInPart (old new : Option (List ℕ)) (bytes : List ℕ) (count
   pub front : WritesFront old new bytes
 
 -- the front of a text is written, and this is left of it
-pub record SendsPart (old new : Option (List ℕ)) (text left : List ℕ) : Type 0 where
+pub record SendsPart (old new : Option (List ℕ)) (text remaining : List ℕ) : Type 0 where
   pub part : List ℕ
-  pub parts : text ≡ part ++ left
+  pub parts : text ≡ part ++ remaining
   pub written : Appends old new part

@@ -3,7 +3,7 @@
 use Rattle.std.specs.Prelude.{◌≡◌, ℕ, List}
 use Rattle.fax_tool.specs.Run.{IsTextOf}
 use Rattle.fax_tool.specs.Text.{Printed}
-use Rattle.fax_tool.specs.declared.words.Command.{Command}
+use Rattle.fax_tool.specs.declared.args.Command.{Command}
 
 -- two texts of one command and file are equal
 abbrev pub TextsAreOne : Type 0

@@ -4,8 +4,8 @@ use Rattle.std.specs.Prelude.{◌≡◌, List}
 use Rattle.fax_tool.specs.Grammar.{Text}
 use Rattle.fax_tool.specs.Job.{IsFault, IsJob}
 use Rattle.fax_tool.specs.Program.{file_name}
-use Rattle.fax_tool.specs.declared.words.Job.{Job}
-use Rattle.fax_tool.specs.declared.words.WordsFault.TheVariants.{NotACursor, Usage}
+use Rattle.fax_tool.specs.declared.args.Job.{Job}
+use Rattle.fax_tool.specs.declared.args.WordsFault.TheVariants.{NotACursor, Usage}
 
 -- two jobs have the same command, and name the same file
 pub record AskTheSame (job other : Job) : Type 0 where

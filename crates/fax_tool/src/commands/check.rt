@@ -3,13 +3,13 @@ ghost use Rattle.std.specs.Prelude.{◌≡◌, ◌≤◌, ◌+◌, ◌++◌, IfE
 ghost use Rattle.arrayvec.specs.ArrayString.{array_string_len};
 ghost use Rattle.fax_tool.specs.ReportText as Text;
 ghost use Rattle.fax_tool.specs.code.Outcome as Outcome;
-ghost use Rattle.fax_tool.specs.code.ReportParts as Parts;
+ghost use Rattle.fax_tool.specs.code.ReportParts as SparseBytes;
 ghost use Rattle.fax_tool.specs.code.Outcome.{IsDone, IsStopped};
 ghost use Rattle.fax_tool.specs.Streams.{input_after, no_faults, output_after};
-ghost use Rattle.fax_tool.specs.declared.words.Command.TheVariants.{Check};
+ghost use Rattle.fax_tool.specs.declared.args.Command.TheVariants.{Check};
 
 use crate::refusal::Refusal;
-use crate::streams::transfer::{Interruptions, give_all, read_whole};
+use crate::streams::transfer::{RetryCount, read_to_end, write_all};
 use crate::streams::{Sink, Source};
 use crate::text::fault::{ErrorLine, row_fault_line};
 use crate::text::push_number;
@@ -25,7 +25,7 @@ type ReportLine = ArrayString<64>;
 /// Appends the number of a strip, where there is one.
 fn push_strip(line: &mut ReportLine, strip: Option<u32>)
     requires { array_string_len line.old + 17 ≤ 64 }
-    ensures text { line.new.bytes ≡ line.old.bytes ++ Parts.and_strip strip }
+    ensures text { line.new.bytes ≡ line.old.bytes ++ SparseBytes.and_strip strip }
     ensures len { array_string_len line.new ≤ array_string_len line.old + 17 }
 {
     if let Some(strip) = strip {
@@ -55,7 +55,7 @@ fn note_line(note: Note) -> ReportLine
 
 /// The last line: how many pages were read wholly, and how many rows.
 fn counts_line(pages: u64, rows: u64) -> ReportLine
-    ensures { result.bytes ≡ Parts.counts_line pages rows }
+    ensures { result.bytes ≡ SparseBytes.counts_line pages rows }
 {
     let mut line = ReportLine::new();
     line.push_str("pages");
@@ -75,7 +75,7 @@ fn put(text: &mut String, line: ReportLine) -> Result<(), Memory>
 
 /// The text of a report: its notes, line by line, and its counts.
 fn report_text(alloc: Global, report: &Report) -> Result<String, Memory>
-    ensures { IfOk result (λ text. string_bytes text ≡ Parts.report_output report.now) }
+    ensures { IfOk result (λ text. string_bytes text ≡ SparseBytes.report_output report.now) }
 {
     let mut text = String::new(alloc);
     for note in &report.notes {
@@ -96,7 +96,7 @@ fn fault_line(report: &Report) -> Option<ErrorLine>
 
 /// Reads the input whole and writes what is worth a note in it, how many pages were read wholly,
 /// and how many rows.
-pub fn give_report<R: Source, W: Sink>(
+pub fn write_report<R: Source, W: Sink>(
     alloc: Global,
     input: &mut R,
     out: &mut W,
@@ -105,16 +105,16 @@ pub fn give_report<R: Source, W: Sink>(
     requires taken { R.taken input.old ≡ 0 }
     requires counts { W.counts out.old ≡ no_faults }
     ensures ok { IfOk result (IsDone Check
-        (input_after (R.left input.old) (R.taken input.new) (R.counts input.new))
+        (input_after (R.remaining input.old) (R.taken input.new) (R.counts input.new))
         (output_after (W.written out.old) (W.written out.new) (W.counts out.new))) }
     ensures err { IfErr result (λ refusal. IsStopped Check refusal
-        (input_after (R.left input.old) (R.taken input.new) (R.counts input.new))
+        (input_after (R.remaining input.old) (R.taken input.new) (R.counts input.new))
         (output_after (W.written out.old) (W.written out.new) (W.counts out.new))) }
 {
-    let file = read_whole(alloc, input)?;
+    let file = read_to_end(alloc, input)?;
     let report = fax_walk::check(alloc, &file)?;
     let text = report_text(alloc, &report)?;
-    let mut interruptions = Interruptions::NONE;
-    give_all(out, &mut interruptions, text.as_bytes())?;
+    let mut interruptions = RetryCount::NONE;
+    write_all(out, &mut interruptions, text.as_bytes())?;
     Ok(fault_line(&report))
 }

@@ -5,19 +5,19 @@ ghost use Rattle.std.specs.Prelude.{replicate, ℕ};
 ghost use Rattle.fax_walk.specs.Converted.{IsConverted, IsNotConverted};
 ghost use Rattle.fax_tool.specs.Run.{IsRead};
 ghost use Rattle.fax_tool.specs.code.Outcome.{HasReadReason};
-ghost use Rattle.fax_walk.specs.views.Parts.{part_bytes};
+ghost use Rattle.fax_walk.specs.views.SparseBytes.{part_bytes};
 ghost use Rattle.fax_tool.specs.Run.{HasWorked};
 ghost use Rattle.fax_tool.specs.code.Transfers.{IsGivenInPart, counted};
 ghost use Rattle.fax_tool.specs.code.Outcome.{IsDone, IsStopped};
 ghost use Rattle.fax_tool.specs.Streams.{input_after, no_faults, output_after};
-ghost use Rattle.fax_tool.specs.declared.words.Command.TheVariants.{Convert};
+ghost use Rattle.fax_tool.specs.declared.args.Command.TheVariants.{Convert};
 
 use crate::refusal::Refusal;
-use crate::streams::held::Held;
-use crate::streams::transfer::{CHUNK, Interruptions, give_all, read_rest, zero_bytes};
+use crate::streams::input_buffer::InputBuffer;
+use crate::streams::transfer::{CHUNK, RetryCount, read_rest, write_all, zero_bytes};
 use crate::streams::{Sink, Source};
 use crate::text::fault::{ErrorLine, conversion_line};
-use fax_walk::{ConvertFault, ImageConversion, Options, Part, Parts};
+use fax_walk::{ConvertFault, ImageConversion, Options, Part, SparseBytes};
 use std::alloc::Global;
 
 /// How many zeros are written at once.
@@ -26,7 +26,7 @@ const BLOCK: usize = 65_536;
 /// Writes so many zeros, from a block of them.
 fn give_zeros<W: Sink>(
     out: &mut W,
-    interruptions: &mut Interruptions,
+    interruptions: &mut RetryCount,
     block: &[u8],
     zeros: usize,
 ) -> Result<(), Refusal>
@@ -38,11 +38,11 @@ fn give_zeros<W: Sink>(
     ensures err { IfErr result (IsGivenInPart (W.written out.old) (W.written out.new)
         (replicate zeros 0) (W.counts out.new)) }
 {
-    let mut left = zeros;
-    while left > 0 {
-        let count = left.min(block.len());
-        give_all(out, interruptions, &block[..count])?;
-        left -= count;
+    let mut remaining = zeros;
+    while remaining > 0 {
+        let count = remaining.min(block.len());
+        write_all(out, interruptions, &block[..count])?;
+        remaining -= count;
     }
     Ok(())
 }
@@ -50,7 +50,7 @@ fn give_zeros<W: Sink>(
 /// Writes a part of an output, with its zeros from a block.
 fn give_part<W: Sink>(
     out: &mut W,
-    interruptions: &mut Interruptions,
+    interruptions: &mut RetryCount,
     block: &[u8],
     part: Part,
 ) -> Result<(), Refusal>
@@ -63,12 +63,12 @@ fn give_part<W: Sink>(
     ensures err { IfErr result (IsGivenInPart (W.written out.old) (W.written out.new)
         (part_bytes part.entry) (W.counts out.new)) }
 {
-    give_all(out, interruptions, part.held)?;
+    write_all(out, interruptions, part.held)?;
     give_zeros(out, interruptions, block, part.zeros)
 }
 
 /// Writes an output part by part, with zeros from a block.
-fn give_parts<W: Sink>(out: &mut W, block: &[u8], output: &Parts) -> Result<(), Refusal>
+fn write_parts<W: Sink>(out: &mut W, block: &[u8], output: &SparseBytes) -> Result<(), Refusal>
     requires block { block.now ≡ replicate (length block.now) 0 }
     requires some { 0 < length block.now }
     requires counts { W.counts out.old ≡ no_faults }
@@ -77,12 +77,12 @@ fn give_parts<W: Sink>(out: &mut W, block: &[u8], output: &Parts) -> Result<(), 
     ensures err { IfErr result (IsGivenInPart (W.written out.old) (W.written out.new) output.now
         (W.counts out.new)) }
 {
-    let mut interruptions = Interruptions::NONE;
-    let mut left = output.parts();
-    while let Some(part) = left.next_part() {
+    let mut interruptions = RetryCount::NONE;
+    let mut remaining = output.parts();
+    while let Some(part) = remaining.next_part() {
         give_part(out, &mut interruptions, block, part)?;
     }
-    interruptions.are_few();
+    interruptions.lemma_few();
     Ok(())
 }
 
@@ -92,43 +92,43 @@ fn read_conversion<R: Source>(
     alloc: Global,
     options: Options,
     input: &mut R,
-) -> Result<Result<Parts, ConvertFault>, Refusal>
+) -> Result<Result<SparseBytes, ConvertFault>, Refusal>
     requires counts { R.counts input.old ≡ no_faults }
     requires taken { R.taken input.old ≡ 0 }
     ensures converts { IfOk result (λ answer. (file : List ℕ)
-        × IfSome (R.left input.old) (λ bytes. file ≡ bytes)
+        × IfSome (R.remaining input.old) (λ bytes. file ≡ bytes)
         × IfOk answer (λ output. IsConverted file options output)
         × IfErr answer (λ fault. fault ≢ ConvertFault.Memory → IsNotConverted file options fault)) }
     ensures read { OnOk result (IsRead
-        (input_after (R.left input.old) (R.taken input.new) (R.counts input.new))) }
+        (input_after (R.remaining input.old) (R.taken input.new) (R.counts input.new))) }
     ensures reason { IfErr result (λ refusal. HasReadReason refusal
-        (input_after (R.left input.old) (R.taken input.new) (R.counts input.new))) }
+        (input_after (R.remaining input.old) (R.taken input.new) (R.counts input.new))) }
 {
-    let mut interruptions = Interruptions::NONE;
-    let mut held = Held::new(alloc, CHUNK)?;
+    let mut interruptions = RetryCount::NONE;
+    let mut held = InputBuffer::new(alloc, CHUNK)?;
     let mut ended = held.fill(input, &mut interruptions)?;
     if !held.bytes().starts_with(b"P4") {
         let file = read_rest(alloc, input, &mut interruptions, held, ended)?;
-        return Ok(fax_walk::convert_parts(alloc, &file, &options));
+        return Ok(fax_walk::convert_sparse(alloc, &file, &options));
     }
-    interruptions.are_few();
+    interruptions.lemma_few();
     let Ok(mut conversion) = ImageConversion::new(alloc, options) else {
         return Err(Refusal::Memory);
     };
     while !ended {
-        interruptions.are_few();
+        interruptions.lemma_few();
         let Ok(taken) = conversion.take_images(held.bytes()) else {
             return Err(Refusal::Memory);
         };
         held.drop_front(taken);
         ended = held.fill(input, &mut interruptions)?;
     }
-    interruptions.are_few();
+    interruptions.lemma_few();
     Ok(conversion.finish(held.bytes()))
 }
 
 /// Reads the input and writes its pages as the options say. Where it is refused nothing is written.
-pub fn give_conversion<R: Source, W: Sink>(
+pub fn write_conversion<R: Source, W: Sink>(
     alloc: Global,
     options: Options,
     input: &mut R,
@@ -138,17 +138,17 @@ pub fn give_conversion<R: Source, W: Sink>(
     requires taken { R.taken input.old ≡ 0 }
     requires counts { W.counts out.old ≡ no_faults }
     ensures ok { IfOk result (IsDone (Convert options)
-        (input_after (R.left input.old) (R.taken input.new) (R.counts input.new))
+        (input_after (R.remaining input.old) (R.taken input.new) (R.counts input.new))
         (output_after (W.written out.old) (W.written out.new) (W.counts out.new))) }
     ensures err { IfErr result (λ refusal. IsStopped (Convert options) refusal
-        (input_after (R.left input.old) (R.taken input.new) (R.counts input.new))
+        (input_after (R.remaining input.old) (R.taken input.new) (R.counts input.new))
         (output_after (W.written out.old) (W.written out.new) (W.counts out.new))) }
 {
     let answer = read_conversion(alloc, options, input)?;
     match answer {
         Ok(output) => {
             let block = zero_bytes(alloc, BLOCK)?;
-            give_parts(out, &block, &output)?;
+            write_parts(out, &block, &output)?;
             Ok(None)
         }
         Err(fault) => Ok(Some(conversion_line(fault)?)),

@@ -9,23 +9,23 @@ ghost use Rattle.fax_tool.specs.code.Printing.{IsLastLine, IsNextLine, PrintsLin
 ghost use Rattle.fax_tool.specs.code.Transfers.{IsGivenInPart, SendsPart, counted};
 ghost use Rattle.fax_tool.specs.Streams.{input_after, no_faults, output_after};
 ghost use Rattle.fax_tool.specs.Text.{PrintedLine, next_line};
-ghost use Rattle.fax_tool.specs.Run.{HasWorked, IsRead, IsTextOfFirst, IsTextOfLines, begun_of};
+ghost use Rattle.fax_tool.specs.Run.{HasWorked, IsRead, IsTextOfFirst, IsTextOfLines, origin_of};
 ghost use Rattle.fax_files.specs.Directory.{max_file};
-ghost use Rattle.fax_walk.specs.Items.{begun_cursor};
-ghost use Rattle.fax_walk.specs.declared.begun.Begun.TheVariants.{At};
+ghost use Rattle.fax_walk.specs.Items.{start_cursor};
+ghost use Rattle.fax_walk.specs.declared.walk_start.WalkStart.TheVariants.{AtCursor};
 ghost use Rattle.fax_walk.specs.declared.end.End.{End as TheEnd};
-ghost use Rattle.fax_tool.specs.declared.words.Command.TheVariants.{List as Forms, Rows};
+ghost use Rattle.fax_tool.specs.declared.args.Command.TheVariants.{List as Forms, Rows};
 
+use crate::args::Selection;
 use crate::commands::printed_lines::Lines;
 use crate::refusal::Refusal;
-use crate::streams::transfer::{Interruptions, give_all, read_whole};
+use crate::streams::transfer::{RetryCount, read_to_end, write_all};
 use crate::streams::{Sink, Source};
-use crate::text::collected::Collected;
 use crate::text::fault::{ErrorLine, end_line};
-use crate::words::Selection;
+use crate::text::output_buffer::OutputBuffer;
 use arrayvec::ArrayString;
 use fax_bits::Memory;
-use fax_walk::{Begun, Cursor, End, Pages, Walk};
+use fax_walk::{Cursor, End, Pages, Walk, WalkStart};
 use std::alloc::Global;
 
 /// How many bytes of text are collected, and a line more, before they are written.
@@ -33,7 +33,7 @@ const ENOUGH_TEXT: usize = 65_536;
 
 /// The line that a run ends with where rows are left, made without memory: `next` and the cursor.
 fn next_line(cursor: Cursor) -> ArrayString<29>
-    ensures { result.bytes ≡ next_line (At cursor) }
+    ensures { result.bytes ≡ next_line (AtCursor cursor) }
 {
     let mut line = ArrayString::new();
     line.push_str("next ");
@@ -46,7 +46,7 @@ fn next_line(cursor: Cursor) -> ArrayString<29>
 #[tactic(auto, using(crate::proofs::TransferLemmas::second_given))]
 fn give_two<W: Sink>(
     out: &mut W,
-    interruptions: &mut Interruptions,
+    interruptions: &mut RetryCount,
     first: &[u8],
     second: &[u8],
 ) -> Result<(), Refusal>
@@ -58,16 +58,17 @@ fn give_two<W: Sink>(
         (first.now ++ second.now)
         (W.counts out.new)) }
 {
-    match give_all(out, interruptions, first) {
-        Ok(()) => give_all(out, interruptions, second),
+    match write_all(out, interruptions, first) {
+        Ok(()) => write_all(out, interruptions, second),
         Err(refusal) => Err(refusal),
     }
 }
 
-/// Writes the lines that are whole, and the line that says where to go on, when memory was refused.
+/// Writes the lines that are whole, and the line that says where to continue, when memory was
+/// refused.
 fn stop_for_memory<W: Sink>(
     out: &mut W,
-    interruptions: &mut Interruptions,
+    interruptions: &mut RetryCount,
     lines: &[u8],
     next: &str,
 ) -> Refusal
@@ -82,10 +83,10 @@ fn stop_for_memory<W: Sink>(
 }
 
 /// Writes the text that is collected, and empties it; its room stays.
-pub fn write_out<W: Sink>(
+pub fn flush<W: Sink>(
     out: &mut W,
-    interruptions: &mut Interruptions,
-    text: &mut Collected,
+    interruptions: &mut RetryCount,
+    text: &mut OutputBuffer,
 ) -> Result<(), Refusal>
     requires { W.counts out.old ≡ counted interruptions.old }
     ensures ok { OnOk result (Appends (W.written out.old) (W.written out.new) text.old) }
@@ -95,16 +96,16 @@ pub fn write_out<W: Sink>(
     ensures err { IfErr result (IsGivenInPart (W.written out.old) (W.written out.new) text.old
         (W.counts out.new)) }
 {
-    give_all(out, interruptions, text.as_bytes())?;
+    write_all(out, interruptions, text.as_bytes())?;
     text.clear();
     Ok(())
 }
 
 /// Writes the text that is collected where it is long, and empties it then.
-pub fn write_where_long<W: Sink>(
+pub fn flush_if_full<W: Sink>(
     out: &mut W,
-    interruptions: &mut Interruptions,
-    text: &mut Collected,
+    interruptions: &mut RetryCount,
+    text: &mut OutputBuffer,
 ) -> Result<(), Refusal>
     requires { W.counts out.old ≡ counted interruptions.old }
     ensures ok { OnOk result (SendsPart (W.written out.old) (W.written out.new) text.old text.new) }
@@ -117,54 +118,54 @@ pub fn write_where_long<W: Sink>(
     if text.len() < ENOUGH_TEXT {
         return Ok(());
     }
-    write_out(out, interruptions, text)
+    flush(out, interruptions, text)
 }
 
 /// What is left of a limit after one more line.
-fn after_one(left: Option<u32>) -> Option<u32>
-    requires { IfSome left (λ n. 0 < n) }
-    ensures { result ≡ option_map (λ n. n - 1) left }
+fn after_one(remaining: Option<u32>) -> Option<u32>
+    requires { IfSome remaining (λ n. 0 < n) }
+    ensures { result ≡ option_map (λ n. n - 1) remaining }
 {
-    match left {
+    match remaining {
         Some(n) => Some(n - 1),
         None => None,
     }
 }
 
-/// Prints the lines, up to the limit, and answers how they ended, or `None` at the limit.
+/// Prints the lines, up to the limit, and returns how they ended, or `None` at the limit.
 fn print_lines<L: Lines, W: Sink>(
     alloc: Global,
     lines: &mut L,
     max: Option<u32>,
     out: &mut W,
-    interruptions: &mut Interruptions,
+    interruptions: &mut RetryCount,
 ) -> Result<Option<End>, Refusal>
     requires counts { W.counts out.old ≡ counted interruptions.old }
-    requires fresh { L.given lines.old ≡ 0 }
+    requires fresh { L.yielded lines.old ≡ 0 }
     ensures ok { IfOk result (λ ending. PrintsLines (L.tail lines.old) max ending
-        (L.given lines.new) (W.written out.old) (W.written out.new)) }
+        (L.yielded lines.new) (W.written out.old) (W.written out.new)) }
     ensures tail { OnOk result ((all : List PrintedLine) (end : TheEnd) → L.tail lines.old all end
         ↔ L.tail lines.new all end) }
-    ensures begun { OnOk result (L.begun lines.new ≡ L.begun lines.old) }
+    ensures origin { OnOk result (L.origin lines.new ≡ L.origin lines.old) }
     ensures counts { OnOk result (W.counts out.new ≡ counted interruptions.new) }
     ensures err { IfErr result (λ refusal. StopsPrinting (λ _. ⊥)
-        (IsTextOfFirst (L.tail lines.old) max (L.begun lines.old)) refusal
+        (IsTextOfFirst (L.tail lines.old) max (L.origin lines.old)) refusal
         (output_after (W.written out.old) (W.written out.new) (W.counts out.new))) }
 {
-    lines.are_one();
-    let mut text = Collected::new(alloc);
-    let mut left = max;
+    lines.lemma_one();
+    let mut text = OutputBuffer::new(alloc);
+    let mut remaining = max;
     loop {
-        if left == Some(0) {
-            write_out(out, interruptions, &mut text)?;
+        if remaining == Some(0) {
+            flush(out, interruptions, &mut text)?;
             return Ok(None);
         }
-        write_where_long(out, interruptions, &mut text)?;
+        flush_if_full(out, interruptions, &mut text)?;
         let cursor = lines.cursor();
         match lines.put_next(&mut text) {
-            Ok(None) => left = after_one(left),
+            Ok(None) => remaining = after_one(remaining),
             Ok(Some(end)) => {
-                write_out(out, interruptions, &mut text)?;
+                flush(out, interruptions, &mut text)?;
                 return Ok(Some(end));
             }
             Err(Memory) => {
@@ -175,12 +176,12 @@ fn print_lines<L: Lines, W: Sink>(
     }
 }
 
-/// The line that says where to go on, with the long cursor, where there is one.
+/// The line that says where to continue, with the long cursor, where there is one.
 fn long_next_line<L: Lines>(alloc: Global, lines: &L) -> Result<String, Memory>
-    ensures { IfOk result (λ line. IsNextLine (L.tail lines.now) (L.begun lines.now)
-        (L.given lines.now) true (string_bytes line)) }
+    ensures { IfOk result (λ line. IsNextLine (L.tail lines.now) (L.origin lines.now)
+        (L.yielded lines.now) true (string_bytes line)) }
 {
-    lines.are_one();
+    lines.lemma_one();
     let mut line = String::from_str(alloc, "next ").map_err(|_| Memory)?;
     match lines.long_cursor(alloc)? {
         Some(place) => place.put_text(&mut line)?,
@@ -190,66 +191,66 @@ fn long_next_line<L: Lines>(alloc: Global, lines: &L) -> Result<String, Memory>
     Ok(line)
 }
 
-/// Writes where to go on, with a long cursor where it is asked for and there is one.
+/// Writes where to continue, with a long cursor where it is asked for and there is one.
 fn give_next<L: Lines, W: Sink>(
     alloc: Global,
     lines: &L,
     long: bool,
     out: &mut W,
-    interruptions: &mut Interruptions,
+    interruptions: &mut RetryCount,
 ) -> Result<(), Refusal>
     requires { W.counts out.old ≡ counted interruptions.old }
     ensures ok { OnOk result ((line : List ℕ) × IsNextLine (L.tail lines.now)
-        (L.begun lines.now) (L.given lines.now) long line
+        (L.origin lines.now) (L.yielded lines.now) long line
         × Appends (W.written out.old) (W.written out.new) line) }
     ensures worked { OnOk result (HasWorked (W.counts out.new)) }
     ensures err { IfErr result (λ refusal. StopsPrinting
-        (λ printed. IsNextLine (L.tail lines.now) (L.begun lines.now) (L.given lines.now) long
+        (λ printed. IsNextLine (L.tail lines.now) (L.origin lines.now) (L.yielded lines.now) long
         printed.output)
-        (IsNextLine (L.tail lines.now) (L.begun lines.now) (L.given lines.now) false) refusal
+        (IsNextLine (L.tail lines.now) (L.origin lines.now) (L.yielded lines.now) false) refusal
         (output_after (W.written out.old) (W.written out.new) (W.counts out.new))) }
 {
     let next = next_line(lines.cursor());
     if long {
         return match long_next_line(alloc, lines) {
-            Ok(line) => give_all(out, interruptions, line.as_bytes()),
+            Ok(line) => write_all(out, interruptions, line.as_bytes()),
             Err(Memory) => Err(stop_for_memory(out, interruptions, b"", &next)),
         };
     }
-    give_all(out, interruptions, next.as_bytes())
+    write_all(out, interruptions, next.as_bytes())
 }
 
-/// What the last line says: how the printing ended, `None` at its limit, and whether it tells where
-/// to go on by a long cursor.
+/// What the last line says: how the printing ended, `None` at its limit, and whether it says where
+/// to continue by a long cursor.
 #[derive(Clone, Copy)]
 struct LastLine {
     ending: Option<End>,
     long: bool,
 }
 
-/// Writes the last line of the output: `end`, or where to go on, or none for a cursor outside of
+/// Writes the last line of the output: `end`, or where to continue, or none for a cursor outside of
 /// the file. Where printing ended at its limit there is no end.
 fn give_last_line<L: Lines, W: Sink>(
     alloc: Global,
     lines: &L,
     last: LastLine,
     out: &mut W,
-    interruptions: &mut Interruptions,
+    interruptions: &mut RetryCount,
 ) -> Result<(), Refusal>
     requires { W.counts out.old ≡ counted interruptions.old }
     ensures ok { OnOk result ((line : List ℕ) × IsLastLine (L.tail lines.now)
-        (L.begun lines.now) (L.given lines.now) last.long last.ending line
+        (L.origin lines.now) (L.yielded lines.now) last.long last.ending line
         × Appends (W.written out.old) (W.written out.new) line) }
     ensures worked { OnOk result (HasWorked (W.counts out.new)) }
     ensures err { IfErr result (λ refusal. StopsPrinting
-        (λ printed. IsLastLine (L.tail lines.now) (L.begun lines.now) (L.given lines.now)
+        (λ printed. IsLastLine (L.tail lines.now) (L.origin lines.now) (L.yielded lines.now)
         last.long last.ending printed.output)
-        (IsNextLine (L.tail lines.now) (L.begun lines.now) (L.given lines.now) false) refusal
+        (IsNextLine (L.tail lines.now) (L.origin lines.now) (L.yielded lines.now) false) refusal
         (output_after (W.written out.old) (W.written out.new) (W.counts out.new))) }
 {
     match last.ending {
-        Some(End::Proper) => give_all(out, interruptions, b"end\n"),
-        Some(End::Outside) => give_all(out, interruptions, b""),
+        Some(End::EndOfPages) => write_all(out, interruptions, b"end\n"),
+        Some(End::Outside) => write_all(out, interruptions, b""),
         Some(End::Fault { .. }) => give_next(alloc, lines, last.long, out, interruptions),
         None => give_next(alloc, lines, last.long, out, interruptions),
     }
@@ -265,25 +266,25 @@ fn print_all<L: Lines, W: Sink>(
     out: &mut W,
 ) -> Result<Option<ErrorLine>, Refusal>
     requires counts { W.counts out.old ≡ no_faults }
-    requires fresh { L.given lines.old ≡ 0 }
+    requires fresh { L.yielded lines.old ≡ 0 }
     ensures ok { IfOk result (WritesOutput
-        (IsTextOfLines (L.tail lines.old) long max (L.begun lines.old))
+        (IsTextOfLines (L.tail lines.old) long max (L.origin lines.old))
         (output_after (W.written out.old) (W.written out.new) (W.counts out.new))) }
     ensures worked { OnOk result (HasWorked (W.counts out.new)) }
     ensures err { IfErr result (λ refusal. StopsPrinting
-        (IsTextOfLines (L.tail lines.old) long max (L.begun lines.old))
-        (IsTextOfFirst (L.tail lines.old) max (L.begun lines.old)) refusal
+        (IsTextOfLines (L.tail lines.old) long max (L.origin lines.old))
+        (IsTextOfFirst (L.tail lines.old) max (L.origin lines.old)) refusal
         (output_after (W.written out.old) (W.written out.new) (W.counts out.new))) }
 {
-    lines.are_one();
-    let mut interruptions = Interruptions::NONE;
+    lines.lemma_one();
+    let mut interruptions = RetryCount::NONE;
     let ending = print_lines(alloc, lines, max, out, &mut interruptions)?;
     let last = LastLine { ending, long };
     give_last_line(alloc, lines, last, out, &mut interruptions)?;
     Ok(end_line(ending))
 }
 
-/// Reads the input whole. Where memory is refused it writes where to go on: at this cursor.
+/// Reads the input whole. Where memory is refused it writes where to continue: at this cursor.
 fn read_or_stop<R: Source, W: Sink>(
     alloc: Global,
     cursor: Cursor,
@@ -293,20 +294,20 @@ fn read_or_stop<R: Source, W: Sink>(
     requires input_counts { R.counts input.old ≡ no_faults }
     requires taken { R.taken input.old ≡ 0 }
     requires counts { W.counts out.old ≡ no_faults }
-    ensures whole { IfOk result (λ file. IfSome (R.left input.old) (λ bytes. file.items ≡ bytes)) }
+    ensures whole { IfOk result (λ file. IfSome (R.remaining input.old) (λ bytes. file.items ≡ bytes)) }
     ensures limit { IfOk result (λ file. vec_len file ≤ max_file) }
     ensures read { OnOk result (IsRead
-        (input_after (R.left input.old) (R.taken input.new) (R.counts input.new))) }
+        (input_after (R.remaining input.old) (R.taken input.new) (R.counts input.new))) }
     ensures unwritten { OnOk result (out.new ≡ out.old) }
-    ensures err { IfErr result (λ refusal. StopsAtBeginning (next_line (At cursor)) refusal
-        (input_after (R.left input.old) (R.taken input.new) (R.counts input.new))
+    ensures err { IfErr result (λ refusal. StopsAtBeginning (next_line (AtCursor cursor)) refusal
+        (input_after (R.remaining input.old) (R.taken input.new) (R.counts input.new))
         (output_after (W.written out.old) (W.written out.new) (W.counts out.new))) }
 {
-    match read_whole(alloc, input) {
+    match read_to_end(alloc, input) {
         Ok(file) => Ok(file),
         Err(refusal) => match refusal {
             Refusal::Memory => {
-                let mut interruptions = Interruptions::NONE;
+                let mut interruptions = RetryCount::NONE;
                 let next = next_line(cursor);
                 Err(stop_for_memory(out, &mut interruptions, b"", &next))
             }
@@ -315,19 +316,19 @@ fn read_or_stop<R: Source, W: Sink>(
     }
 }
 
-/// What the rows of a part begin with. Where memory is refused it writes where to go on: there.
-fn begin_or_stop<W: Sink>(part: &Selection, out: &mut W) -> Result<Begun, Refusal>
+/// What the rows of a part begin with. Where memory is refused it writes where to continue: there.
+fn begin_or_stop<W: Sink>(part: &Selection, out: &mut W) -> Result<WalkStart, Refusal>
     requires { W.counts out.old ≡ no_faults }
-    ensures ok { IfOk result (λ begun. begun ≡ begun_of part.now) }
+    ensures ok { IfOk result (λ origin. origin ≡ origin_of part.now) }
     ensures unwritten { OnOk result (out.new ≡ out.old) }
     ensures err { IfErr result (λ refusal. StopsWith
-        (next_line (At (begun_cursor (begun_of part.now)))) refusal
+        (next_line (AtCursor (start_cursor (origin_of part.now)))) refusal
         (output_after (W.written out.old) (W.written out.new) (W.counts out.new))) }
 {
-    match part.begun() {
-        Ok(begun) => Ok(begun),
+    match part.origin() {
+        Ok(origin) => Ok(origin),
         Err(Memory) => {
-            let mut interruptions = Interruptions::NONE;
+            let mut interruptions = RetryCount::NONE;
             let next = next_line(part.begin());
             Err(stop_for_memory(out, &mut interruptions, b"", &next))
         }
@@ -335,8 +336,8 @@ fn begin_or_stop<W: Sink>(part: &Selection, out: &mut W) -> Result<Begun, Refusa
 }
 
 /// Reads the input whole and prints the rows of its pages from the cursor on, up to the limit, and
-/// then `end`, or `next` with the place of the row that was due: a long cursor where the part asks
-/// for it and there is one.
+/// then `end`, or `next` with the place of the next row: a long cursor where the part asks for it
+/// and there is one.
 pub fn rows<R: Source, W: Sink>(
     alloc: Global,
     part: &Selection,
@@ -347,21 +348,21 @@ pub fn rows<R: Source, W: Sink>(
     requires taken { R.taken input.old ≡ 0 }
     requires counts { W.counts out.old ≡ no_faults }
     ensures ok { IfOk result (IsDone (Rows part.now)
-        (input_after (R.left input.old) (R.taken input.new) (R.counts input.new))
+        (input_after (R.remaining input.old) (R.taken input.new) (R.counts input.new))
         (output_after (W.written out.old) (W.written out.new) (W.counts out.new))) }
     ensures err { IfErr result (λ refusal. IsStopped (Rows part.now) refusal
-        (input_after (R.left input.old) (R.taken input.new) (R.counts input.new))
+        (input_after (R.remaining input.old) (R.taken input.new) (R.counts input.new))
         (output_after (W.written out.old) (W.written out.new) (W.counts out.new))) }
 {
     fax_walk::laws::beginnings_have_one_tail();
-    let begun = begin_or_stop(part, out)?;
+    let origin = begin_or_stop(part, out)?;
     let file = read_or_stop(alloc, part.begin(), input, out)?;
-    let mut walk = Walk::begin(alloc, &file, begun);
+    let mut walk = Walk::begin(alloc, &file, origin);
     print_all(alloc, &mut walk, part.max, part.long, out)
 }
 
 /// Reads the input whole and prints the forms of its pages from the cursor on, up to the limit, and
-/// then `end`, or `next` with the place of the page that was due.
+/// then `end`, or `next` with the place of the next page.
 pub fn list<R: Source, W: Sink>(
     alloc: Global,
     part: &Selection,
@@ -372,10 +373,10 @@ pub fn list<R: Source, W: Sink>(
     requires taken { R.taken input.old ≡ 0 }
     requires counts { W.counts out.old ≡ no_faults }
     ensures ok { IfOk result (IsDone (Forms part.now)
-        (input_after (R.left input.old) (R.taken input.new) (R.counts input.new))
+        (input_after (R.remaining input.old) (R.taken input.new) (R.counts input.new))
         (output_after (W.written out.old) (W.written out.new) (W.counts out.new))) }
     ensures err { IfErr result (λ refusal. IsStopped (Forms part.now) refusal
-        (input_after (R.left input.old) (R.taken input.new) (R.counts input.new))
+        (input_after (R.remaining input.old) (R.taken input.new) (R.counts input.new))
         (output_after (W.written out.old) (W.written out.new) (W.counts out.new))) }
 {
     fax_walk::laws::form_tails_are_one();

@@ -1,15 +1,15 @@
 //! What is printed line by line: the rows of a file, or its pages.
 ghost use Rattle.std.specs.Prelude.{◌≡◌, ◌<◌, ◌↔◌, ℕ, List, IfOk, None};
 ghost use Rattle.fax_bits.specs.laws.Codes.{IsOne};
-ghost use Rattle.fax_walk.specs.views.Walk.{begun_place};
-ghost use Rattle.fax_walk.specs.Items.{begun_cursor};
-ghost use Rattle.fax_walk.specs.declared.begun.Begun.{Begun};
+ghost use Rattle.fax_walk.specs.views.Walk.{start_place};
+ghost use Rattle.fax_walk.specs.Items.{start_cursor};
+ghost use Rattle.fax_walk.specs.declared.walk_start.WalkStart.{WalkStart};
 ghost use Rattle.fax_walk.specs.declared.end.End.{End as TheEnd};
 ghost use Rattle.fax_tool.specs.Text.{PrintedLine};
 ghost use Rattle.fax_tool.specs.code.Printing as Spec;
 ghost use Rattle.fax_tool.specs.code.Printing.{IsLinePut, IsNextAfter};
 
-use crate::text::collected::Collected;
+use crate::text::output_buffer::OutputBuffer;
 use crate::text::page_line::put_page_line;
 use crate::text::row_line::put_row_line;
 use fax_bits::Memory;
@@ -22,37 +22,37 @@ use std::alloc::Global;
 pub trait Lines {
     ghost tail: { Self → List PrintedLine → TheEnd → Type 0 };
 
-    ghost begun: { Self → Begun };
+    ghost origin: { Self → WalkStart };
 
-    ghost given: { Self → ℕ };
+    ghost yielded: { Self → ℕ };
 
-    ghost left: { Self → ℕ };
+    ghost remaining: { Self → ℕ };
 
-    /// The cursor after what the last line told, or the one that the lines began with.
+    /// The cursor after what the last line reported, or the one that the lines began with.
     fn cursor(&self) -> Cursor
-        ensures { (next : Begun)
-            × IsNextAfter (tail self.now) (begun self.now) (given self.now) next
-            × (result ≡ begun_cursor next) };
+        ensures { (next : WalkStart)
+            × IsNextAfter (tail self.now) (origin self.now) (yielded self.now) next
+            × (result ≡ start_cursor next) };
 
-    /// The place inside a strip after what the last line told, or the one that the lines began
+    /// The place inside a strip after what the last line reported, or the one that the lines began
     /// with, if there is one.
     fn long_cursor(&self, alloc: Global) -> Result<Option<LongCursor>, Memory>
-        ensures { IfOk result (λ place. (next : Begun)
-            × IsNextAfter (tail self.now) (begun self.now) (given self.now) next
-            × (place ≡ begun_place next)) };
+        ensures { IfOk result (λ place. (next : WalkStart)
+            × IsNextAfter (tail self.now) (origin self.now) (yielded self.now) next
+            × (place ≡ start_place next)) };
 
     /// Collects the next line after the text, or answers how the lines ended. Where memory is
     /// refused the text is as it was.
-    fn put_next(&mut self, text: &mut Collected) -> Result<Option<End>, Memory>
+    fn put_next(&mut self, text: &mut OutputBuffer) -> Result<Option<End>, Memory>
         ensures tail { (lines : List PrintedLine) (end : TheEnd) → tail self.old lines end
             ↔ tail self.new lines end }
-        ensures begun { begun self.new ≡ begun self.old }
-        ensures fewer { IfOk result (λ end. end ≡ None → left self.new < left self.old) }
-        ensures put { IsLinePut (tail self.old) (given self.old) text.old result (given self.new)
+        ensures origin { origin self.new ≡ origin self.old }
+        ensures fewer { IfOk result (λ end. end ≡ None → remaining self.new < remaining self.old) }
+        ensures put { IsLinePut (tail self.old) (yielded self.old) text.old result (yielded self.new)
             text.new };
 
     /// The lines and the end after them are one. It computes nothing.
-    fn are_one(&self)
+    fn lemma_one(&self)
         ensures { IsOne (tail self.now) };
 }
 
@@ -72,13 +72,13 @@ impl Lines for Walk<'_> {
     ghost use Rattle.std.specs.Prelude.{◌-◌, ◌^◌};
     ghost use Rattle.fax_tool.specs.Run.{AreRowLines};
 
-    ghost tail = { λ walk. AreRowLines walk.file walk.begun };
+    ghost tail = { λ walk. AreRowLines walk.file walk.origin };
 
-    ghost begun = { λ walk. walk.begun };
+    ghost origin = { λ walk. walk.origin };
 
-    ghost given = { λ walk. walk.given };
+    ghost yielded = { λ walk. walk.yielded };
 
-    ghost left = { λ walk. 2 ^ 64 - walk.given };
+    ghost remaining = { λ walk. 2 ^ 64 - walk.yielded };
 
     fn cursor(&self) -> Cursor {
         fax_walk::laws::beginnings_have_one_tail();
@@ -90,18 +90,18 @@ impl Lines for Walk<'_> {
         Walk::long_cursor(self, alloc)
     }
 
-    fn put_next(&mut self, text: &mut Collected) -> Result<Option<End>, Memory> {
+    fn put_next(&mut self, text: &mut OutputBuffer) -> Result<Option<End>, Memory> {
         match self.next_row() {
             Ok(Some((place, row))) => {
                 put_row_line(text, place, row)?;
                 Ok(None)
             }
-            Ok(None) => Ok(Some(End::Proper)),
+            Ok(None) => Ok(Some(End::EndOfPages)),
             Err(fault) => Ok(Some(end_of(fault)?)),
         }
     }
 
-    fn are_one(&self) {
+    fn lemma_one(&self) {
         fax_walk::laws::beginnings_have_one_tail();
     }
 }
@@ -109,16 +109,16 @@ impl Lines for Walk<'_> {
 /// A line for each page.
 impl Lines for Pages<'_> {
     ghost use Rattle.std.specs.Prelude.{◌-◌, ◌^◌};
-    ghost use Rattle.fax_walk.specs.declared.begun.Begun.TheVariants.{At};
+    ghost use Rattle.fax_walk.specs.declared.walk_start.WalkStart.TheVariants.{AtCursor};
     ghost use Rattle.fax_tool.specs.Run.{ArePageLines};
 
-    ghost tail = { λ pages. ArePageLines pages.file pages.begun };
+    ghost tail = { λ pages. ArePageLines pages.file pages.origin };
 
-    ghost begun = { λ pages. At pages.begun };
+    ghost origin = { λ pages. AtCursor pages.origin };
 
-    ghost given = { λ pages. pages.given };
+    ghost yielded = { λ pages. pages.yielded };
 
-    ghost left = { λ pages. 2 ^ 32 - pages.given };
+    ghost remaining = { λ pages. 2 ^ 32 - pages.yielded };
 
     fn cursor(&self) -> Cursor {
         fax_walk::laws::form_tails_are_one();
@@ -132,18 +132,18 @@ impl Lines for Pages<'_> {
         Ok(None)
     }
 
-    fn put_next(&mut self, text: &mut Collected) -> Result<Option<End>, Memory> {
+    fn put_next(&mut self, text: &mut OutputBuffer) -> Result<Option<End>, Memory> {
         match self.next_page() {
             Ok(Some((page, form))) => {
                 put_page_line(text, page, &form)?;
                 Ok(None)
             }
-            Ok(None) => Ok(Some(End::Proper)),
+            Ok(None) => Ok(Some(End::EndOfPages)),
             Err(fault) => Ok(Some(end_of(fault)?)),
         }
     }
 
-    fn are_one(&self) {
+    fn lemma_one(&self) {
         fax_walk::laws::form_tails_are_one();
     }
 }

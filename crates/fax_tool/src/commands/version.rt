@@ -8,10 +8,10 @@ ghost use Rattle.fax_tool.specs.Words.{version_text};
 
 use crate::refusal::Refusal;
 use crate::streams::Sink;
-use crate::streams::transfer::{Interruptions, give_all};
+use crate::streams::transfer::{RetryCount, write_all};
 
 /// The program's name and the version, which is that of the file `VERSION`.
-const VERSION_TEXT: &str = "faxpages 1.11.0\n";
+const VERSION_TEXT: &str = "faxpages 1.12.0\n";
 
 /// Writes the version.
 pub fn version<W: Sink>(out: &mut W) -> Result<(), Refusal>
@@ -21,6 +21,6 @@ pub fn version<W: Sink>(out: &mut W) -> Result<(), Refusal>
     ensures err { IfErr result (IsGivenInPart (W.written out.old) (W.written out.new) version_text
         (W.counts out.new)) }
 {
-    let mut interruptions = Interruptions::NONE;
-    give_all(out, &mut interruptions, VERSION_TEXT.as_bytes())
+    let mut interruptions = RetryCount::NONE;
+    write_all(out, &mut interruptions, VERSION_TEXT.as_bytes())
 }

@@ -10,7 +10,7 @@ ghost use Rattle.fax_tool.specs.code.Outcome.{HasReadReason};
 ghost use Rattle.fax_tool.specs.code.Transfers.{IsGivenInPart, counted};
 
 use crate::refusal::Refusal;
-use crate::streams::held::Held;
+use crate::streams::input_buffer::InputBuffer;
 use crate::streams::{Sink, Source, StreamFault};
 use fax_files::MAX_FILE;
 use std::alloc::Global;
@@ -32,11 +32,11 @@ const MOST_INTERRUPTED: u32 = 1_023;
 
 /// How many calls on a stream were interrupted, and made again. Contracts see the number.
 #[derive(Drop)]
-pub struct Interruptions {
+pub struct RetryCount {
     count: u32,
 }
 
-impl Model for Interruptions {
+impl Model for RetryCount {
     ghost use Rattle.std.specs.Prelude.{ℕ, ◌≤◌};
 
     ghost Value = { ℕ };
@@ -46,12 +46,12 @@ impl Model for Interruptions {
     ghost invariant = { λ interruptions. interruptions.count ≤ 1023 };
 }
 
-impl Interruptions {
+impl RetryCount {
     /// No call was interrupted.
-    pub const NONE: Interruptions = Interruptions { count: 0 };
+    pub const NONE: RetryCount = RetryCount { count: 0 };
 
     /// They are not too many. It computes nothing.
-    pub(crate) fn are_few(&self)
+    pub(crate) fn lemma_few(&self)
         ensures { self.now ≤ most_interrupted }
     {
         let _ = &self.count;
@@ -91,31 +91,31 @@ pub(crate) fn zero_bytes(alloc: Global, len: usize) -> Result<Vec<u8>, Refusal>
 ///
 /// # Errors
 ///
-/// `Memory` where a growth was refused; else as `Held::fill`.
+/// `Memory` where a growth was refused; else as `InputBuffer::fill`.
 pub(crate) fn read_rest<R: Source>(
     alloc: Global,
     input: &mut R,
-    interruptions: &mut Interruptions,
-    mut held: Held,
+    interruptions: &mut RetryCount,
+    mut held: InputBuffer,
     mut ended: bool,
 ) -> Result<Vec<u8>, Refusal>
     requires counts { R.counts input.old ≡ counted interruptions.old }
     requires taken { R.taken input.old ≡ held.taken }
     requires all { held.taken ≡ length held.bytes }
-    requires end { ended ≡ true → IsAtEnd (R.left input.old) }
+    requires end { ended ≡ true → IsAtEnd (R.remaining input.old) }
     ensures whole { IfOk result (λ file. (text : List ℕ) × (file.items ≡ held.bytes ++ text)
-        × Consumes (R.left input.old) (R.left input.new) text × IsAtEnd (R.left input.new)) }
+        × Consumes (R.remaining input.old) (R.remaining input.new) text × IsAtEnd (R.remaining input.new)) }
     ensures limit { IfOk result (λ file. vec_len file ≤ max_file) }
     ensures read { OnOk result (IsRead
-        (input_after (R.left input.old) (R.taken input.new) (R.counts input.new))) }
+        (input_after (R.remaining input.old) (R.taken input.new) (R.counts input.new))) }
     ensures reason { IfErr result (λ refusal. HasReadReason refusal
-        (input_after (R.left input.old) (R.taken input.new) (R.counts input.new))) }
+        (input_after (R.remaining input.old) (R.taken input.new) (R.counts input.new))) }
 {
-    interruptions.are_few();
+    interruptions.lemma_few();
     let mut file = Vec::new(alloc);
     file.reserve(FIRST_ROOM).map_err(|_| Refusal::Memory)?;
     loop {
-        interruptions.are_few();
+        interruptions.lemma_few();
         if file.extend_from_slice(held.bytes()).is_err() {
             return Err(Refusal::Memory);
         }
@@ -133,18 +133,18 @@ pub(crate) fn read_rest<R: Source>(
 ///
 /// `Memory` where a growth was refused; `Read` where a read failed, 1,024 were interrupted, or the
 /// source has more bytes.
-pub fn read_whole<R: Source>(alloc: Global, input: &mut R) -> Result<Vec<u8>, Refusal>
+pub fn read_to_end<R: Source>(alloc: Global, input: &mut R) -> Result<Vec<u8>, Refusal>
     requires counts { R.counts input.old ≡ no_faults }
     requires taken { R.taken input.old ≡ 0 }
-    ensures whole { IfOk result (λ file. IfSome (R.left input.old) (λ bytes. file.items ≡ bytes)) }
+    ensures whole { IfOk result (λ file. IfSome (R.remaining input.old) (λ bytes. file.items ≡ bytes)) }
     ensures limit { IfOk result (λ file. vec_len file ≤ max_file) }
     ensures read { OnOk result (IsRead
-        (input_after (R.left input.old) (R.taken input.new) (R.counts input.new))) }
+        (input_after (R.remaining input.old) (R.taken input.new) (R.counts input.new))) }
     ensures reason { IfErr result (λ refusal. HasReadReason refusal
-        (input_after (R.left input.old) (R.taken input.new) (R.counts input.new))) }
+        (input_after (R.remaining input.old) (R.taken input.new) (R.counts input.new))) }
 {
-    let mut interruptions = Interruptions::NONE;
-    let mut held = Held::new(alloc, CHUNK)?;
+    let mut interruptions = RetryCount::NONE;
+    let mut held = InputBuffer::new(alloc, CHUNK)?;
     let ended = held.fill(input, &mut interruptions)?;
     read_rest(alloc, input, &mut interruptions, held, ended)
 }
@@ -155,9 +155,9 @@ pub fn read_whole<R: Source>(alloc: Global, input: &mut R) -> Result<Vec<u8>, Re
 ///
 /// `Write` where a write failed or 1,024 on this sink were interrupted; a front of the bytes was
 /// then written.
-pub fn give_all<W: Sink>(
+pub fn write_all<W: Sink>(
     out: &mut W,
-    interruptions: &mut Interruptions,
+    interruptions: &mut RetryCount,
     bytes: &[u8],
 ) -> Result<(), Refusal>
     requires counts { W.counts out.old ≡ counted interruptions.old }
@@ -178,6 +178,6 @@ pub fn give_all<W: Sink>(
             }
         }
     }
-    interruptions.are_few();
+    interruptions.lemma_few();
     Ok(())
 }

@@ -28,8 +28,8 @@ impl Model for ErrorLine {
     ghost invariant = { λ _. ⊤ };
 }
 
-/// The line of a fault where a row was due: `fault page P row R`, the fault's name, and the tag of
-/// the field at fault.
+/// The line of a fault where a row was expected: `fault page P row R`, the fault's name, and the
+/// tag of the field at fault.
 #[tactic(auto, unfolding(crate::specs::Text::fault_line))]
 pub fn row_fault_line(page: u32, row: u32, cause: Cause) -> ErrorLine
     ensures { result ≡ fault_line page row cause }
@@ -86,7 +86,7 @@ pub fn end_line(ending: Option<End>) -> Option<ErrorLine>
     ensures { result ≡ Spec.end_line ending }
 {
     match ending {
-        None | Some(End::Proper) => None,
+        None | Some(End::EndOfPages) => None,
         Some(End::Outside) => Some(fixed_line("fault cursor: CursorOutside\n")),
         Some(End::Fault { page, row, cause }) => Some(row_fault_line(page, row, cause)),
     }

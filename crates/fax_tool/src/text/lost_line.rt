@@ -4,11 +4,11 @@ ghost use Rattle.arrayvec.specs.ArrayString.{array_string_len};
 ghost use Rattle.fax_files.specs.declared.Cause.TheVariants.{File};
 ghost use Rattle.fax_tool.specs.SalvageText as Spec;
 
-use crate::text::collected::Collected;
+use crate::text::output_buffer::OutputBuffer;
 use crate::text::push_number;
 use arrayvec::ArrayString;
 use fax_bits::Memory;
-use fax_walk::{Cause, FileFault, Stretch};
+use fax_walk::{Cause, FileFault, LostRows};
 
 /// A line of what is lost, which is made without memory.
 type LostLine = ArrayString<80>;
@@ -30,7 +30,7 @@ fn push_fault(line: &mut LostLine, cause: Cause)
 /// The line of rows that are lost: `lost P R N`, the first of them, how many, and the first one's
 /// fault.
 #[tactic(auto, unfolding(crate::specs::SalvageText::lost_line))]
-fn lost_line(lost: Stretch) -> LostLine
+fn lost_line(lost: LostRows) -> LostLine
     ensures { result.bytes ≡ Spec.lost_line lost.page lost.row lost.rows lost.cause }
 {
     let mut line = LostLine::new();
@@ -55,7 +55,7 @@ fn refused_line(page: u32, fault: FileFault) -> LostLine
 }
 
 /// Appends the line of rows that are lost.
-pub fn put_lost_line(text: &mut Collected, lost: Stretch) -> Result<(), Memory>
+pub fn put_lost_line(text: &mut OutputBuffer, lost: LostRows) -> Result<(), Memory>
     ensures ok { OnOk result
         (text.new ≡ text.old ++ Spec.lost_line lost.page lost.row lost.rows lost.cause) }
     ensures err { OnErr result (text.new ≡ text.old) }
@@ -64,7 +64,7 @@ pub fn put_lost_line(text: &mut Collected, lost: Stretch) -> Result<(), Memory>
 }
 
 /// Appends the line of a page whose form is refused.
-pub fn put_refused_line(text: &mut Collected, page: u32, fault: FileFault) -> Result<(), Memory>
+pub fn put_refused_line(text: &mut OutputBuffer, page: u32, fault: FileFault) -> Result<(), Memory>
     ensures ok { OnOk result (text.new ≡ text.old ++ Spec.refused_line page (File fault)) }
     ensures err { OnErr result (text.new ≡ text.old) }
 {

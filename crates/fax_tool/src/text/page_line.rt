@@ -4,7 +4,7 @@ ghost use Rattle.arrayvec.specs.ArrayString.{array_string_len};
 ghost use Rattle.fax_files.specs.Page.{fill_order_of};
 ghost use Rattle.fax_tool.specs.Text.{and_coding, and_fraction, page_line_of};
 
-use crate::text::collected::Collected;
+use crate::text::output_buffer::OutputBuffer;
 use crate::text::push_number;
 use arrayvec::ArrayString;
 use fax_bits::Memory;
@@ -70,7 +70,7 @@ fn page_line(page: u32, form: &PageForm) -> PageLine
 }
 
 /// Appends the line of a page.
-pub fn put_page_line(text: &mut Collected, page: u32, form: &PageForm) -> Result<(), Memory>
+pub fn put_page_line(text: &mut OutputBuffer, page: u32, form: &PageForm) -> Result<(), Memory>
     ensures ok { OnOk result (text.new ≡ text.old ++ page_line_of page form.now) }
     ensures err { OnErr result (text.new ≡ text.old) }
 {

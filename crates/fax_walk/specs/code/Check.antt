@@ -14,14 +14,14 @@ use Rattle.fax_walk.specs.declared.end.End.TheVariants.{Fault}
 use Rattle.fax_walk.specs.Pages.{read_page, page_with_form, ends_as}
 use Rattle.fax_walk.specs.code.RowPlaces.{first_on}
 use Rattle.fax_walk.specs.laws.InOrder.{LeadTo}
-use Rattle.fax_walk.specs.Items.{RowItem, RowPlace, first_at, IsRow}
+use Rattle.fax_walk.specs.Items.{RowItem, RowPosition, first_at, IsRow}
 use Rattle.fax_walk.specs.Report.{IsNoted}
 use Rattle.fax_files.specs.Page.{most_rows}
 
--- how far a file is checked: what is checked next, and the row that is due
+-- how far a file is checked: what is checked next, and the next row
 pub record CheckPlace : Type 0 where
   pub next : ℕ × Option ℕ
-  pub row : RowPlace
+  pub row : RowPosition
 
 -- before page p
 abbrev pub before_page : ℕ → CheckPlace
@@ -62,7 +62,7 @@ pub record AreStripsChecked (directory : TiffDirectory) (form : PageForm) (p s :
   pub is : HasChecked directory.file (before_strip form p 0) (before_strip form p s) noted
       (min (s * form.rows_per_strip) form.rows)
 
--- after so many rows of page p the next page is due, or there is this fault
+-- after so many rows of page p the next page comes next, or there is this fault
 abbrev pub IsAfterRows : List ℕ → ℕ → ℕ → Option Cause → CheckPlace → Type 0
 IsAfterRows file p rows None at = at ≡ before_page (p + 1)
 IsAfterRows file p rows (Some cause) at = EndsThere file at (Fault p rows cause)
@@ -91,6 +91,6 @@ IsReadTo before (Strip row fault) read =
     read ≡ record { rows = before + row; fault = Some (FaultOfStrip fault) }
 
 -- the first pages of a file were read wholly, and have so many rows and these notes
-pub record ArePagesChecked (file : List ℕ) (given rows : ℕ) (noted : List Note) : Type 0 where
-  pub few : rows ≤ given * most_rows
-  pub is : HasChecked file (before_page 0) (before_page given) noted rows
+pub record ArePagesChecked (file : List ℕ) (yielded rows : ℕ) (noted : List Note) : Type 0 where
+  pub few : rows ≤ yielded * most_rows
+  pub is : HasChecked file (before_page 0) (before_page yielded) noted rows

@@ -15,18 +15,18 @@ use Rattle.fax_walk.specs.declared.options.Options.{Options}
 use Rattle.fax_walk.specs.declared.options.Target.TheVariants.{Pbm}
 use Rattle.fax_walk.specs.declared.options.ConvertFault.{ConvertFault}
 use Rattle.fax_walk.specs.declared.options.ConvertFault.TheVariants.{OutputTooLarge}
-use Rattle.fax_walk.specs.declared.open_strips.OpenStrips.{OpenStrips}
+use Rattle.fax_walk.specs.declared.open_strips.StripsWriter.{StripsWriter}
 use Rattle.fax_walk.specs.declared.output.Output.{Output}
 use Rattle.fax_walk.specs.declared.output.Output.TheVariants.{Images, File, TooLarge}
-use Rattle.fax_walk.specs.declared.sheet.Sheet.{Sheet}
+use Rattle.fax_walk.specs.declared.page_size.PageSize.{PageSize}
 use Rattle.fax_files.specs.Page.{most_pels, most_rows}
 use Rattle.fax_walk.specs.Converted.{SourcePage, most_pages, target_bytes, IsTooLarge}
-use Rattle.fax_walk.specs.code.OpenStrips.{HasPutRows}
+use Rattle.fax_walk.specs.code.StripsWriter.{HasPutRows}
 pub use Rattle.fax_walk.specs.views.Converting.{HasPages, HasPutImages, IsWrittenTo, Progress}
 pub use Rattle.fax_walk.specs.views.Converting.{StaysTooLarge, coding_of}
 
 -- a sheet within the limits of a page
-pub record IsSheet (sheet : Sheet) : Type 0 where
+pub record IsSheet (sheet : PageSize) : Type 0 where
   pub some_width : 1 ≤ sheet.width
   pub width : sheet.width ≤ most_pels
   pub some_rows : 1 ≤ sheet.rows
@@ -37,16 +37,16 @@ pub record IsSheet (sheet : Sheet) : Type 0 where
   pub unit : sheet.unit ≤ 3
 
 -- the sheet of an image
-abbrev pub image_sheet : ℕ → ℕ → Sheet
+abbrev pub image_sheet : ℕ → ℕ → PageSize
 image_sheet width rows = record { width = width; rows = rows; x = (204, 1); y = (196, 1); unit = 2 }
 
 -- the sheet of a page of a TIFF file
-abbrev pub form_sheet : PageForm → Sheet
+abbrev pub form_sheet : PageForm → PageSize
 form_sheet form =
     record { width = form.width; rows = form.rows; x = form.x; y = form.y; unit = form.unit }
 
 -- the form of a sheet's page as it is written
-abbrev pub sheet_form : Options → Coding → Sheet → PageForm
+abbrev pub sheet_form : Options → Coding → PageSize → PageForm
 sheet_form options coding sheet =
     let rows_per_strip = min (unwrap_or options.strip sheet.rows) sheet.rows in
     record {
@@ -64,7 +64,7 @@ sheet_form options coding sheet =
     }
 
 -- the page of a sheet with these rows
-abbrev pub page_of : Sheet → List (List Colour) → SourcePage
+abbrev pub page_of : PageSize → List (List Colour) → SourcePage
 page_of sheet rows = record {
   image = record { width = sheet.width; rows = rows };
   resolution = record { x = sheet.x; y = sheet.y; unit = sheet.unit };
@@ -81,11 +81,11 @@ with_source_page at page = record at { pages = at.pages ++ page ∷ [] }
 -- a page that is being written: its sheet, and the rows of it that were put
 pub record Part : Type 0 where
   pub at : Progress
-  pub sheet : Sheet
+  pub sheet : PageSize
   pub rows : List (List Colour)
 
 -- before a page's first row
-abbrev pub no_rows : Progress → Sheet → Part
+abbrev pub no_rows : Progress → PageSize → Part
 no_rows at sheet = record { at = at; sheet = sheet; rows = [] }
 
 -- with one more row
@@ -97,7 +97,7 @@ abbrev pub after : Part → Progress
 after part = with_source_page part.at (page_of part.sheet part.rows)
 
 -- these pages are written by these options
-pub record IsPageDue (options : Options) (output : Output) (at : Progress) : Type 0 where
+pub record IsUpcomingPage (options : Options) (output : Output) (at : Progress) : Type 0 where
   pub options_are : at.options ≡ options
   pub written : IsWrittenTo output at
 
@@ -108,12 +108,12 @@ pub record HasImageRows (bytes : List ℕ) (part : Part) : Type 0 where
   pub bytes_are : bytes
       ≡ pbm_of (map (λ page. page.image) part.at.pages)
       ++ (head_bytes part.sheet.width part.sheet.rows ++ flat_map packed_row part.rows)
-  pub left : ℕ
-  pub left_is : length part.rows + left ≡ part.sheet.rows
-  pub fits : length bytes + left * packed_len part.sheet.width ≤ max_file
+  pub remaining : ℕ
+  pub left_is : length part.rows + remaining ≡ part.sheet.rows
+  pub fits : length bytes + remaining * packed_len part.sheet.width ≤ max_file
 
 -- the rows are put on a page of a TIFF file that has the pages before it
-abbrev pub HasRowsOnPage : Coding → Writing → Option OpenStrips → Part → Type 0
+abbrev pub HasRowsOnPage : Coding → Writing → Option StripsWriter → Part → Type 0
 HasRowsOnPage coding writer None part = ⊥
 HasRowsOnPage coding writer (Some page) part =
     HasPages coding writer part.at × (length part.at.pages < most_pages)
@@ -139,16 +139,16 @@ pub record IsPartWritten (output : Output) (part : Part) : Type 0 where
 abbrev pub IsBeginning : Options → Output → Type 0
 IsBeginning options output = IsWrittenTo output (nothing_written options)
 
--- a page is begun
-abbrev pub BeginsPage : Options → Output → Sheet → Output → Type 0
+-- a page is started
+abbrev pub BeginsPage : Options → Output → PageSize → Output → Type 0
 BeginsPage options old sheet new =
-    (at : Progress) → IsPageDue options old at → IsPartWritten new (no_rows at sheet)
+    (at : Progress) → IsUpcomingPage options old at → IsPartWritten new (no_rows at sheet)
 
--- a row can be put: it is due, and it is as wide as the page
+-- a row can be put: it is expected, and it is as wide as the page
 pub record TakesRow (output : Output) (row : List Colour) : Type 0 where
   pub part : Part
   pub written : IsPartWritten output part
-  pub due : length part.rows < part.sheet.rows
+  pub upcoming : length part.rows < part.sheet.rows
   pub width : length row ≡ part.sheet.width
 
 -- the row is put
@@ -170,7 +170,7 @@ EndsPage old new =
     (part : Part) → IsPartWritten old part → length part.rows ≡ part.sheet.rows
     → IsWrittenTo new (after part)
 
--- these rows of a page were put after some pages: where there are none it is not begun, and where
+-- these rows of a page were put after some pages: where there are none it is not started, and where
 -- they are all it is ended
 pub record IsPutTo (output : Output) (part : Part) : Type 0 where
   pub none : length part.rows ≡ 0 → IsWrittenTo output part.at
@@ -178,12 +178,12 @@ pub record IsPutTo (output : Output) (part : Part) : Type 0 where
   pub all : length part.rows ≡ part.sheet.rows → IsWrittenTo output (after part)
 
 -- row number r of a page can be put after the others, by these options
-pub record IsRowDue (options : Options) (output : Output) (r : ℕ) (row : List Colour)
+pub record IsUpcomingRow (options : Options) (output : Output) (r : ℕ) (row : List Colour)
     (part : Part) : Type 0 where
   pub options_are : part.at.options ≡ options
   pub put : IsPutTo output part
   pub count : length part.rows ≡ r
-  pub due : r < part.sheet.rows
+  pub upcoming : r < part.sheet.rows
   pub width : length row ≡ part.sheet.width
 
 -- the bytes are those of all pages, and not too many

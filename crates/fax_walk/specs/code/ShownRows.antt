@@ -1,13 +1,13 @@
--- How the rows of a page are gone through, as they are handed out.
+-- How the rows of a page are gone through, as they are returned.
 use Rattle.std.specs.Prelude.{◌≡◌, ◌≤◌, List, Option}
 use Rattle.fax_rows.specs.Rows.{Colour}
 use Rattle.fax_files.specs.views.Page.{IsPageForm}
-use Rattle.fax_walk.specs.declared.salvage_rows.PagePart.{PagePart}
+use Rattle.fax_walk.specs.declared.salvage_rows.SalvagedPart.{SalvagedPart}
 use Rattle.fax_walk.specs.Items.{exchanged}
-use Rattle.fax_walk.specs.code.SalvageItems.{RowsState, IsPart, row_due}
+use Rattle.fax_walk.specs.code.SalvageItems.{RowsState, IsPart, upcoming_row}
 use Rattle.fax_walk.specs.code.Stages.{IsRoomFor}
 
--- the rows of a page that are gone through, and the row that was found last, as it is handed out
+-- the rows of a page that are gone through, and the row that was found last, as it is returned
 pub record ShownState : Type 0 where
   pub rows : RowsState
   pub shown : List Colour
@@ -16,10 +16,10 @@ pub record ShownState : Type 0 where
 pub record IsShown (rows : RowsState) (room : Option (List Colour)) : Type 0 where
   pub limits : IsPageForm rows.form
   pub has_room : IsRoomFor rows.form room
-  pub within : row_due rows ≤ rows.form.rows
+  pub within : upcoming_row rows ≤ rows.form.rows
 
 -- what became of the next row, which is shown if it is found
-abbrev pub IsShownPart : ShownState → Option PagePart → ShownState → Type 0
+abbrev pub IsShownPart : ShownState → Option SalvagedPart → ShownState → Type 0
 IsShownPart old part new =
     IsPart old.rows part new.rows
     × (new.shown ≡ exchanged new.rows.form new.rows.reader.reference)

@@ -3,7 +3,7 @@ use Rattle.std.specs.Prelude.{◌≡◌, ℕ, ◌+◌, ◌-◌, ◌*◌, ◌^◌
 use Rattle.std.specs.Prelude.{length, Option, Some, None, Ok, ⊤, [], ◌∷◌, ◌++◌}
 use Rattle.fax_bits.specs.declared.Colour.{Colour}
 use Rattle.fax_bits.specs.declared.Colour.TheVariants.{White}
-use Rattle.fax_rows.specs.Rows.{pels_of}
+use Rattle.fax_rows.specs.Rows.{pels_of_runs}
 use Rattle.fax_page.specs.declared.StripForm.{StripForm}
 use Rattle.fax_page.specs.Lines.{white_row}
 use Rattle.fax_page.specs.views.Reader.{StripState}
@@ -18,20 +18,20 @@ use Rattle.fax_walk.specs.declared.end.End.{End}
 use Rattle.fax_walk.specs.declared.end.End.TheVariants.{Fault, Outside}
 use Rattle.fax_walk.specs.declared.opening.OpenFault.{OpenFault}
 use Rattle.fax_walk.specs.declared.opening.OpenFault.TheVariants.{Memory, Ended}
-use Rattle.fax_walk.specs.Pages.{LongPlace}
+use Rattle.fax_walk.specs.Pages.{LongCursorValue}
 use Rattle.fax_walk.specs.laws.InOrder.{LeadTo}
 use Rattle.fax_walk.specs.Pages.{read_page}
-use Rattle.fax_walk.specs.Items.{RowItem, RowPlace, IsInnerOn, IsRow, first_at, place_after}
+use Rattle.fax_walk.specs.Items.{RowItem, RowPosition, IsPositionOn, IsRow, first_at, place_after}
 use Rattle.fax_walk.specs.code.RowPlaces.{IsInner}
-use Rattle.fax_walk.specs.Items.{inner_at}
+use Rattle.fax_walk.specs.Items.{position_at}
 use Rattle.fax_walk.specs.code.RowPlaces.{strip_at}
 use Rattle.fax_walk.specs.code.RowPlaces.{place_on}
-use Rattle.fax_walk.specs.code.Opening.{IsFilePage, PageDue, page_with}
+use Rattle.fax_walk.specs.code.Opening.{IsFilePage, UpcomingPage, page_with}
 use Rattle.fax_walk.specs.Pages.{goes_on, ends_as}
 
--- a page that is open: its number, the chain after its directory, its directory and form, the
--- first row that is handed out, the number of the strip that is read, that strip, as far as it is
--- read, the row that was read last as it is handed out, and how many rows were read up to here
+-- a page that is open: its number, the chain after its directory, its directory and form, the first
+-- row that is returned, the number of the strip that is read, that strip, as far as it is read, the
+-- row that was read last as it is returned, and how many rows were read up to here
 pub record PageState : Type 0 where
   pub page : ℕ
   pub chain : ChainState
@@ -43,22 +43,22 @@ pub record PageState : Type 0 where
   pub shown : List Colour
   pub read : ℕ
 
--- the number of the row that is due on a page
+-- the number of the next row on a page
 abbrev pub row_of : PageState → ℕ
 row_of page = page.number * page.form.rows_per_strip + page.strip.row
 
--- how many rows are still read before the first one that is handed out
+-- how many rows are still read before the first one that is returned
 abbrev pub skipped : PageState → ℕ
 skipped page = page.first - row_of page
 
--- the place of the row that is due, or the first one of the page after
-abbrev pub place_of : PageState → RowPlace
+-- the place of the next row, or the first one of the page after
+abbrev pub place_of : PageState → RowPosition
 place_of page =
     place_on page.form page.page (row_of page)
     (record { bits = page.strip.place; reference = page.strip.reference })
 
--- the row that was read last, as it is handed out: from the row of its own that colours are
--- exchanged in, if there is one
+-- the row that was read last, as it is returned: from the row of its own that colours are exchanged
+-- in, if there is one
 abbrev pub row_shown : StripState → Option (List Colour) → List Colour
 row_shown strip None = strip.reference
 row_shown strip (Some row) = row
@@ -98,21 +98,21 @@ pub record IsOpen (page : PageState) : Type 0 where
   pub first : page.first < page.form.rows
 
 -- a page of the file was opened at this place; so many rows are read before the first one that is
--- handed out, and so many were read before
-pub record IsOpenedAt (file : List ℕ) (at : RowPlace) (dropped read : ℕ)
+-- returned, and so many were read before
+pub record IsOpenedAt (file : List ℕ) (at : RowPosition) (dropped read : ℕ)
     (page : PageState) : Type 0 where
   pub is_open : IsOpen page
   pub file_is : page.directory.file ≡ file
-  pub row_due : row_of page < page.form.rows
+  pub upcoming_row : row_of page < page.form.rows
   pub place_is : place_of page ≡ at
   pub skips : skipped page ≡ dropped
   pub read_is : page.read ≡ read
 
--- the same, and where rows are skipped its first row that is handed out is this one
-pub record IsOpenedFrom (file : List ℕ) (at : RowPlace) (dropped : ℕ) (begun : Cursor)
+-- the same, and where rows are skipped its first row that is returned is this one
+pub record IsOpenedFrom (file : List ℕ) (at : RowPosition) (dropped : ℕ) (origin : Cursor)
     (page : PageState) : Type 0 where
   pub opened : IsOpenedAt file at dropped 0 page
-  pub named : 0 < dropped → (page.page ≡ begun.page) × (page.first ≡ begun.row)
+  pub named : 0 < dropped → (page.page ≡ origin.page) × (page.first ≡ origin.row)
 
 -- no page was opened: memory was refused, or there is this to say of the end
 abbrev pub IsRefusal : (End → Type 0) → OpenFault → Type 0
@@ -120,7 +120,7 @@ IsRefusal ends Memory = ⊤
 IsRefusal ends (Ended end) = ends end
 
 -- the reader of a strip stands at a place inside it, before this row of the strip
-abbrev pub IsAtPlace : StripForm → List ℕ → ℕ → LongPlace → StripState → Type 0
+abbrev pub IsAtPlace : StripForm → List ℕ → ℕ → LongCursorValue → StripState → Type 0
 IsAtPlace form bytes row place strip =
     IsInner form.width bytes place
     × (strip ≡ record {
@@ -129,36 +129,37 @@ IsAtPlace form bytes row place strip =
       place = place.bits;
       row = row;
       read = 0;
-      reference = pels_of White place.runs;
+      reference = pels_of_runs White place.runs;
       fault = None;
     })
 
 -- no strip was opened: where memory was not refused, the place is outside of it
-abbrev pub IsNoPlace : StripForm → List ℕ → LongPlace → OpenFault → Type 0
+abbrev pub IsNoPlace : StripForm → List ℕ → LongCursorValue → OpenFault → Type 0
 IsNoPlace form bytes place =
     IsRefusal (λ end. (end ≡ Outside) × (IsInner form.width bytes place → ⊥))
 
--- the strip of a row of a page that is due is not there: the rows end at its first row
-pub record IsNoStrip (due : PageDue) (first : ℕ) (end : End) : Type 0 where
-  pub stop : IsRow due.directory.file
-      (first_at due.page (strip_at due.form first * due.form.rows_per_strip)) (ends_as end)
+-- the strip of a row of the next page is not there: the rows end at its first row
+pub record IsNoStrip (upcoming : UpcomingPage) (first : ℕ) (end : End) : Type 0 where
+  pub stop : IsRow upcoming.directory.file
+      (first_at upcoming.page (strip_at upcoming.form first * upcoming.form.rows_per_strip))
+      (ends_as end)
   pub cause : Cause
-  pub told : end
-      ≡ Fault due.page (strip_at due.form first * due.form.rows_per_strip) cause
+  pub final_end : end
+      ≡ Fault upcoming.page (strip_at upcoming.form first * upcoming.form.rows_per_strip) cause
 
--- a place inside a strip of a page that is due is not there, or its strip is not
-abbrev pub IsNoInner : PageDue → LongPlace → End → Type 0
-IsNoInner due place end =
-    (IsInnerOn due.directory.file (page_with due.directory due.form) place
-    × IsRow due.directory.file (inner_at place) (ends_as end))
-    ⊎ ((IsInnerOn due.directory.file (page_with due.directory due.form) place → ⊥)
+-- a place inside a strip of the next page is not there, or its strip is not
+abbrev pub IsNoInner : UpcomingPage → LongCursorValue → End → Type 0
+IsNoInner upcoming place end =
+    (IsPositionOn upcoming.directory.file (page_with upcoming.directory upcoming.form) place
+    × IsRow upcoming.directory.file (position_at place) (ends_as end))
+    ⊎ ((IsPositionOn upcoming.directory.file (page_with upcoming.directory upcoming.form) place → ⊥)
     × (end ≡ Outside))
 
--- the rows end at the row that is due on a page
+-- the rows end at the next row on a page
 abbrev pub EndsAtRow : PageState → End → Type 0
 EndsAtRow page end = (cause : Cause) × (end ≡ Fault page.page (row_of page) cause)
 
--- the row that is due is an item
+-- the next row is an item
 abbrev pub item_of : PageState → ℕ → PageState → RowItem
 item_of old r new =
     record { page = old.page; form = old.form; row = r; pels = new.shown; bits = new.strip.place }
@@ -177,14 +178,14 @@ pub record KeepsPlace (old new : PageState) : Type 0 where
   pub place : place_of new ≡ place_of old
   pub read : new.read ≡ old.read
 
--- the next strip of a page was begun
+-- the next strip of a page was started
 pub record IsNextStrip (old new : PageState) : Type 0 where
   pub still_open : IsOpen new
   pub number : new.number ≡ old.number + 1
 
--- the row that was due was read
+-- the next row was read
 pub record ReadsPageRow (old new : PageState) : Type 0 where
-  pub due : row_of old < old.form.rows
+  pub upcoming : row_of old < old.form.rows
   pub same : IsSamePage old new
   pub still_open : IsOpen new
   pub step : IsRow old.directory.file (place_of old)
@@ -193,17 +194,17 @@ pub record ReadsPageRow (old new : PageState) : Type 0 where
   pub one_more : new.read ≡ old.read + 1
   pub after : place_of new ≡ place_after (item_of old (row_of old) new)
 
--- the row that was due was read, or all rows were read before
+-- the next row was read, or all rows were read before
 abbrev pub ReadsRowOrNone : Bool → PageState → PageState → Type 0
 ReadsRowOrNone true old new = ReadsPageRow old new
 ReadsRowOrNone false old new = (row_of old ≡ old.form.rows) × (new ≡ old)
 
--- the row that was due could not be read
+-- the next row could not be read
 pub record StopsAtRow (old : PageState) (end : End) : Type 0 where
   pub stop : IsRow old.directory.file (place_of old) (ends_as end)
-  pub told : EndsAtRow old end
+  pub final_end : EndsAtRow old end
 
--- these rows were read, which are not handed out
+-- these rows were read, which are not returned
 pub record HasSkipped (old new : PageState) (items : List RowItem) : Type 0 where
   pub same : IsSamePage old new
   pub lead : LeadTo (IsRow old.directory.file) (place_of old) items (place_of new)
@@ -211,7 +212,7 @@ pub record HasSkipped (old new : PageState) (items : List RowItem) : Type 0 wher
   pub read : new.read ≡ old.read + length items
   pub few : length items ≤ skipped old
 
--- the next row that is handed out was read, and those before it
+-- the next row that is returned was read, and those before it
 pub record GivesRow (old new : PageState) : Type 0 where
   pub same : IsSamePage old new
   pub still_open : IsOpen new
@@ -230,14 +231,14 @@ pub record GivesRow (old new : PageState) : Type 0 where
   pub read : new.read ≡ old.read + skipped old + 1
   pub few : new.read < 2 ^ 53
 
--- the next row that is handed out was read, or all rows were read before
+-- the next row that is returned was read, or all rows were read before
 abbrev pub GivesRowOrNone : Bool → PageState → PageState → Type 0
 GivesRowOrNone true old new = GivesRow old new
 GivesRowOrNone false old new = (row_of old ≡ old.form.rows) × (new ≡ old)
 
--- the rows end before the next one that is handed out: some before it were read
+-- the rows end before the next one that is returned: some before it were read
 pub record GivesNone (old : PageState) (end : End) (new : PageState) : Type 0 where
   pub items : List RowItem
   pub skips : HasSkipped old new items
   pub stop : IsRow old.directory.file (place_of new) (ends_as end)
-  pub told : EndsAtRow new end
+  pub final_end : EndsAtRow new end

@@ -10,16 +10,17 @@ LeadTo next at [] to = to ≡ at
 LeadTo {S} next at (item ∷ items) to =
     (place : S) × next at (goes_on item place) × LeadTo next place items to
 
--- no end was told yet, or it was, and nothing is left but that end
-abbrev pub AgreesWithTold : {A : Type 0} → Option End → List A → End → Type 0
-AgreesWithTold None items end = Unit {0}
-AgreesWithTold (Some told) items end = (items ≡ []) × (end ≡ told)
+-- no end was reported yet, or it was, and nothing is left but that end
+abbrev pub AgreesWithEnd : {A : Type 0} → Option End → List A → End → Type 0
+AgreesWithEnd None items end = Unit {0}
+AgreesWithEnd (Some final_end) items end = (items ≡ []) × (end ≡ final_end)
 
--- what is left where so many items were handed out, and this end was told, if one was
-pub record IsLeftOf {A : Type 0} (tail : List A → End → Type 0) (given : ℕ) (told : Option End)
+-- what is left where so many items were returned, and this end was reported, if one was
+pub record IsLeftOf {A : Type 0} (tail : List A → End
+    → Type 0) (yielded : ℕ) (final_end : Option End)
     (items : List A) (end : End) : Type 0 where
   pub all : List A
   pub is : tail all end
-  pub within : given ≤ length all
-  pub rest : items ≡ drop given all
-  pub is_told : AgreesWithTold told items end
+  pub within : yielded ≤ length all
+  pub rest : items ≡ drop yielded all
+  pub is_told : AgreesWithEnd final_end items end

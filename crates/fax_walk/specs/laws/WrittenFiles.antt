@@ -13,7 +13,7 @@ use Rattle.fax_files.specs.laws.Pbm.{IsWritableImage}
 use Rattle.fax_files.specs.Layout.{WrittenPage, file_of}
 use Rattle.fax_files.specs.Directory.{max_file}
 use Rattle.fax_files.specs.laws.TiffFiles.{HoldStripRows, AreWritable}
-use Rattle.fax_walk.specs.declared.end.End.TheVariants.{Proper}
+use Rattle.fax_walk.specs.declared.end.End.TheVariants.{EndOfPages}
 use Rattle.fax_walk.specs.declared.options.Options.{Options}
 use Rattle.fax_walk.specs.Converted.{SourcePage, most_pages, written_page}
 use Rattle.fax_walk.specs.Pages.{AreForms, FormItem}
@@ -55,9 +55,9 @@ forms_of p (written ∷ pages) = record { page = p; form = written.form } ∷ fo
 pub record IsWalkedAs (file : List ℕ) (pages : List WrittenPage)
     (rows : List (List (List Colour))) : Type 0 where
   pub items : List RowItem
-  pub are : AreItems file items Proper
+  pub are : AreItems file items EndOfPages
   pub rows_are : map walked items ≡ rows_of 0 rows
-  pub forms : AreForms file (forms_of 0 pages) Proper
+  pub forms : AreForms file (forms_of 0 pages) EndOfPages
 
 -- the file of some pages, at most 65,535, whose strips hold these rows, has these rows and forms
 -- where it has at most 268,435,456 bytes

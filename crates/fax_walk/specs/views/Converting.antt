@@ -67,8 +67,9 @@ pub record IsConverting (taken : List ℕ) (options : Options) (count : ℕ)
   pub images : List Image
   pub counted : count ≡ length images
   pub few : count ≤ length taken
-  pub after : (left : List ℕ) (more : List Image) (end : Option PbmFault) → AreImages left more end
-      → AreImages (taken ++ left) (images ++ more) end
+  pub after : (remaining : List ℕ) (more : List Image) (end : Option PbmFault)
+      → AreImages remaining more end
+      → AreImages (taken ++ remaining) (images ++ more) end
   pub written : IsWrittenTo output (record {
     options = options;
     pages = map page_of_image images;
@@ -77,5 +78,5 @@ pub record IsConverting (taken : List ℕ) (options : Options) (count : ℕ)
 -- so much was taken of the bytes, and what is left is nothing, or no image, for this fault
 pub record IsLeftBy (bytes : List ℕ) (taken : ℕ) (fault : Option PbmFault) : Type 0 where
   pub within : taken ≤ length bytes
-  pub left : MatchOption fault (drop taken bytes ≡ [])
+  pub remaining : MatchOption fault (drop taken bytes ≡ [])
       (λ fault. (drop taken bytes ≢ []) × IsImageFault (drop taken bytes) fault)

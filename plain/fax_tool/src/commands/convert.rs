@@ -2,11 +2,11 @@
 //! `convert`: the pages in another form.
 
 use crate::refusal::Refusal;
-use crate::streams::held::Held;
-use crate::streams::transfer::{CHUNK, Interruptions, give_all, read_rest, zero_bytes};
+use crate::streams::input_buffer::InputBuffer;
+use crate::streams::transfer::{CHUNK, RetryCount, read_rest, write_all, zero_bytes};
 use crate::streams::{Sink, Source};
 use crate::text::fault::{ErrorLine, conversion_line};
-use fax_walk::{ConvertFault, ImageConversion, Options, Part, Parts};
+use fax_walk::{ConvertFault, ImageConversion, Options, Part, SparseBytes};
 use kit_std::alloc::Global;
 
 /// How many zeros are written at once.
@@ -22,15 +22,15 @@ const BLOCK: usize = 65_536;
 //     (replicate zeros 0) (W.counts out.new)) }
 fn give_zeros<W: Sink>(
     out: &mut W,
-    interruptions: &mut Interruptions,
+    interruptions: &mut RetryCount,
     block: &[u8],
     zeros: usize,
 ) -> Result<(), Refusal> {
-    let mut left = zeros;
-    while left > 0 {
-        let count = left.min(block.len());
-        give_all(out, interruptions, &block[..count])?;
-        left -= count;
+    let mut remaining = zeros;
+    while remaining > 0 {
+        let count = remaining.min(block.len());
+        write_all(out, interruptions, &block[..count])?;
+        remaining -= count;
     }
     Ok(())
 }
@@ -46,11 +46,11 @@ fn give_zeros<W: Sink>(
 //     (part_bytes part.entry) (W.counts out.new)) }
 fn give_part<W: Sink>(
     out: &mut W,
-    interruptions: &mut Interruptions,
+    interruptions: &mut RetryCount,
     block: &[u8],
     part: Part,
 ) -> Result<(), Refusal> {
-    give_all(out, interruptions, part.held)?;
+    write_all(out, interruptions, part.held)?;
     give_zeros(out, interruptions, block, part.zeros)
 }
 
@@ -62,13 +62,13 @@ fn give_part<W: Sink>(
 // ensures worked { OnOk result (HasWorked (W.counts out.new)) }
 // ensures err { IfErr result (IsGivenInPart (W.written out.old) (W.written out.new) output.now
 //     (W.counts out.new)) }
-fn give_parts<W: Sink>(out: &mut W, block: &[u8], output: &Parts) -> Result<(), Refusal> {
-    let mut interruptions = Interruptions::NONE;
-    let mut left = output.parts();
-    while let Some(part) = left.next_part() {
+fn write_parts<W: Sink>(out: &mut W, block: &[u8], output: &SparseBytes) -> Result<(), Refusal> {
+    let mut interruptions = RetryCount::NONE;
+    let mut remaining = output.parts();
+    while let Some(part) = remaining.next_part() {
         give_part(out, &mut interruptions, block, part)?;
     }
-    interruptions.are_few();
+    interruptions.lemma_few();
     Ok(())
 }
 
@@ -77,38 +77,38 @@ fn give_parts<W: Sink>(out: &mut W, block: &[u8], output: &Parts) -> Result<(), 
 // requires counts { R.counts input.old ≡ no_faults }
 // requires taken { R.taken input.old ≡ 0 }
 // ensures converts { IfOk result (λ answer. (file : List ℕ)
-//     × IfSome (R.left input.old) (λ bytes. file ≡ bytes)
+//     × IfSome (R.remaining input.old) (λ bytes. file ≡ bytes)
 //     × IfOk answer (λ output. IsConverted file options output)
 //     × IfErr answer (λ fault. fault ≢ ConvertFault.Memory → IsNotConverted file options fault)) }
 // ensures read { OnOk result (IsRead
-//     (input_after (R.left input.old) (R.taken input.new) (R.counts input.new))) }
+//     (input_after (R.remaining input.old) (R.taken input.new) (R.counts input.new))) }
 // ensures reason { IfErr result (λ refusal. HasReadReason refusal
-//     (input_after (R.left input.old) (R.taken input.new) (R.counts input.new))) }
+//     (input_after (R.remaining input.old) (R.taken input.new) (R.counts input.new))) }
 fn read_conversion<R: Source>(
     alloc: Global,
     options: Options,
     input: &mut R,
-) -> Result<Result<Parts, ConvertFault>, Refusal> {
-    let mut interruptions = Interruptions::NONE;
-    let mut held = Held::new(alloc, CHUNK)?;
+) -> Result<Result<SparseBytes, ConvertFault>, Refusal> {
+    let mut interruptions = RetryCount::NONE;
+    let mut held = InputBuffer::new(alloc, CHUNK)?;
     let mut ended = held.fill(input, &mut interruptions)?;
     if !held.bytes().starts_with(b"P4") {
         let file = read_rest(alloc, input, &mut interruptions, held, ended)?;
-        return Ok(fax_walk::convert_parts(alloc, &file, &options));
+        return Ok(fax_walk::convert_sparse(alloc, &file, &options));
     }
-    interruptions.are_few();
+    interruptions.lemma_few();
     let Ok(mut conversion) = ImageConversion::new(alloc, options) else {
         return Err(Refusal::Memory);
     };
     while !ended {
-        interruptions.are_few();
+        interruptions.lemma_few();
         let Ok(taken) = conversion.take_images(held.bytes()) else {
             return Err(Refusal::Memory);
         };
         held.drop_front(taken);
         ended = held.fill(input, &mut interruptions)?;
     }
-    interruptions.are_few();
+    interruptions.lemma_few();
     Ok(conversion.finish(held.bytes()))
 }
 
@@ -117,12 +117,12 @@ fn read_conversion<R: Source>(
 // requires taken { R.taken input.old ≡ 0 }
 // requires counts { W.counts out.old ≡ no_faults }
 // ensures ok { IfOk result (IsDone (Convert options)
-//     (input_after (R.left input.old) (R.taken input.new) (R.counts input.new))
+//     (input_after (R.remaining input.old) (R.taken input.new) (R.counts input.new))
 //     (output_after (W.written out.old) (W.written out.new) (W.counts out.new))) }
 // ensures err { IfErr result (λ refusal. IsStopped (Convert options) refusal
-//     (input_after (R.left input.old) (R.taken input.new) (R.counts input.new))
+//     (input_after (R.remaining input.old) (R.taken input.new) (R.counts input.new))
 //     (output_after (W.written out.old) (W.written out.new) (W.counts out.new))) }
-pub fn give_conversion<R: Source, W: Sink>(
+pub fn write_conversion<R: Source, W: Sink>(
     alloc: Global,
     options: Options,
     input: &mut R,
@@ -132,7 +132,7 @@ pub fn give_conversion<R: Source, W: Sink>(
     match answer {
         Ok(output) => {
             let block = zero_bytes(alloc, BLOCK)?;
-            give_parts(out, &block, &output)?;
+            write_parts(out, &block, &output)?;
             Ok(None)
         }
         Err(fault) => Ok(Some(conversion_line(fault)?)),

@@ -3,23 +3,23 @@
 
 use kit_std::prelude::{String, Vec};
 
+use crate::args::Selection;
 use crate::commands::printed_lines::Lines;
 use crate::refusal::Refusal;
-use crate::streams::transfer::{Interruptions, give_all, read_whole};
+use crate::streams::transfer::{RetryCount, read_to_end, write_all};
 use crate::streams::{Sink, Source};
-use crate::text::collected::Collected;
 use crate::text::fault::{ErrorLine, end_line};
-use crate::words::Selection;
+use crate::text::output_buffer::OutputBuffer;
 use arrayvec::ArrayString;
 use fax_bits::Memory;
-use fax_walk::{Begun, Cursor, End, Pages, Walk};
+use fax_walk::{Cursor, End, Pages, Walk, WalkStart};
 use kit_std::alloc::Global;
 
 /// How many bytes of text are collected, and a line more, before they are written.
 const ENOUGH_TEXT: usize = 65_536;
 
 /// The line that a run ends with where rows are left, made without memory: `next` and the cursor.
-// ensures { result.bytes ≡ next_line (At cursor) }
+// ensures { result.bytes ≡ next_line (AtCursor cursor) }
 fn next_line(cursor: Cursor) -> ArrayString<29> {
     let mut line = ArrayString::new();
     line.push_str("next ");
@@ -38,23 +38,24 @@ fn next_line(cursor: Cursor) -> ArrayString<29> {
 //     (W.counts out.new)) }
 fn give_two<W: Sink>(
     out: &mut W,
-    interruptions: &mut Interruptions,
+    interruptions: &mut RetryCount,
     first: &[u8],
     second: &[u8],
 ) -> Result<(), Refusal> {
-    match give_all(out, interruptions, first) {
-        Ok(()) => give_all(out, interruptions, second),
+    match write_all(out, interruptions, first) {
+        Ok(()) => write_all(out, interruptions, second),
         Err(refusal) => Err(refusal),
     }
 }
 
-/// Writes the lines that are whole, and the line that says where to go on, when memory was refused.
+/// Writes the lines that are whole, and the line that says where to continue, when memory was
+/// refused.
 // requires { W.counts out.old ≡ counted interruptions.old }
 // ensures { StopsWith (lines.now ++ next.now) result
 //     (output_after (W.written out.old) (W.written out.new) (W.counts out.new)) }
 fn stop_for_memory<W: Sink>(
     out: &mut W,
-    interruptions: &mut Interruptions,
+    interruptions: &mut RetryCount,
     lines: &[u8],
     next: &str,
 ) -> Refusal {
@@ -72,12 +73,12 @@ fn stop_for_memory<W: Sink>(
 // ensures worked { OnOk result (HasWorked (W.counts out.new)) }
 // ensures err { IfErr result (IsGivenInPart (W.written out.old) (W.written out.new) text.old
 //     (W.counts out.new)) }
-pub fn write_out<W: Sink>(
+pub fn flush<W: Sink>(
     out: &mut W,
-    interruptions: &mut Interruptions,
-    text: &mut Collected,
+    interruptions: &mut RetryCount,
+    text: &mut OutputBuffer,
 ) -> Result<(), Refusal> {
-    give_all(out, interruptions, text.as_bytes())?;
+    write_all(out, interruptions, text.as_bytes())?;
     text.clear();
     Ok(())
 }
@@ -88,62 +89,62 @@ pub fn write_out<W: Sink>(
 // ensures counts { OnOk result (W.counts out.new ≡ counted interruptions.new) }
 // ensures err { IfErr result (IsGivenInPart (W.written out.old) (W.written out.new) text.old
 //     (W.counts out.new)) }
-pub fn write_where_long<W: Sink>(
+pub fn flush_if_full<W: Sink>(
     out: &mut W,
-    interruptions: &mut Interruptions,
-    text: &mut Collected,
+    interruptions: &mut RetryCount,
+    text: &mut OutputBuffer,
 ) -> Result<(), Refusal> {
     // A line may come on top: the longest has 131,085 bytes, the widest row with a change at each
     // pel.
     if text.len() < ENOUGH_TEXT {
         return Ok(());
     }
-    write_out(out, interruptions, text)
+    flush(out, interruptions, text)
 }
 
 /// What is left of a limit after one more line.
-// requires { IfSome left (λ n. 0 < n) }
-// ensures { result ≡ option_map (λ n. n - 1) left }
-fn after_one(left: Option<u32>) -> Option<u32> {
-    match left {
+// requires { IfSome remaining (λ n. 0 < n) }
+// ensures { result ≡ option_map (λ n. n - 1) remaining }
+fn after_one(remaining: Option<u32>) -> Option<u32> {
+    match remaining {
         Some(n) => Some(n - 1),
         None => None,
     }
 }
 
-/// Prints the lines, up to the limit, and answers how they ended, or `None` at the limit.
+/// Prints the lines, up to the limit, and returns how they ended, or `None` at the limit.
 // requires counts { W.counts out.old ≡ counted interruptions.old }
-// requires fresh { L.given lines.old ≡ 0 }
+// requires fresh { L.yielded lines.old ≡ 0 }
 // ensures ok { IfOk result (λ ending. PrintsLines (L.tail lines.old) max ending
-//     (L.given lines.new) (W.written out.old) (W.written out.new)) }
+//     (L.yielded lines.new) (W.written out.old) (W.written out.new)) }
 // ensures tail { OnOk result ((all : List PrintedLine) (end : TheEnd) → L.tail lines.old all end
 //     ↔ L.tail lines.new all end) }
-// ensures begun { OnOk result (L.begun lines.new ≡ L.begun lines.old) }
+// ensures origin { OnOk result (L.origin lines.new ≡ L.origin lines.old) }
 // ensures counts { OnOk result (W.counts out.new ≡ counted interruptions.new) }
 // ensures err { IfErr result (λ refusal. StopsPrinting (λ _. ⊥)
-//     (IsTextOfFirst (L.tail lines.old) max (L.begun lines.old)) refusal
+//     (IsTextOfFirst (L.tail lines.old) max (L.origin lines.old)) refusal
 //     (output_after (W.written out.old) (W.written out.new) (W.counts out.new))) }
 fn print_lines<L: Lines, W: Sink>(
     alloc: Global,
     lines: &mut L,
     max: Option<u32>,
     out: &mut W,
-    interruptions: &mut Interruptions,
+    interruptions: &mut RetryCount,
 ) -> Result<Option<End>, Refusal> {
-    lines.are_one();
-    let mut text = Collected::new(alloc);
-    let mut left = max;
+    lines.lemma_one();
+    let mut text = OutputBuffer::new(alloc);
+    let mut remaining = max;
     loop {
-        if left == Some(0) {
-            write_out(out, interruptions, &mut text)?;
+        if remaining == Some(0) {
+            flush(out, interruptions, &mut text)?;
             return Ok(None);
         }
-        write_where_long(out, interruptions, &mut text)?;
+        flush_if_full(out, interruptions, &mut text)?;
         let cursor = lines.cursor();
         match lines.put_next(&mut text) {
-            Ok(None) => left = after_one(left),
+            Ok(None) => remaining = after_one(remaining),
             Ok(Some(end)) => {
-                write_out(out, interruptions, &mut text)?;
+                flush(out, interruptions, &mut text)?;
                 return Ok(Some(end));
             }
             Err(Memory) => {
@@ -154,11 +155,11 @@ fn print_lines<L: Lines, W: Sink>(
     }
 }
 
-/// The line that says where to go on, with the long cursor, where there is one.
-// ensures { IfOk result (λ line. IsNextLine (L.tail lines.now) (L.begun lines.now)
-//     (L.given lines.now) true (string_bytes line)) }
+/// The line that says where to continue, with the long cursor, where there is one.
+// ensures { IfOk result (λ line. IsNextLine (L.tail lines.now) (L.origin lines.now)
+//     (L.yielded lines.now) true (string_bytes line)) }
 fn long_next_line<L: Lines>(alloc: Global, lines: &L) -> Result<String, Memory> {
-    lines.are_one();
+    lines.lemma_one();
     let mut line = String::from_str(alloc, "next ").map_err(|_| Memory)?;
     match lines.long_cursor(alloc)? {
         Some(place) => place.put_text(&mut line)?,
@@ -168,64 +169,64 @@ fn long_next_line<L: Lines>(alloc: Global, lines: &L) -> Result<String, Memory> 
     Ok(line)
 }
 
-/// Writes where to go on, with a long cursor where it is asked for and there is one.
+/// Writes where to continue, with a long cursor where it is asked for and there is one.
 // requires { W.counts out.old ≡ counted interruptions.old }
 // ensures ok { OnOk result ((line : List ℕ) × IsNextLine (L.tail lines.now)
-//     (L.begun lines.now) (L.given lines.now) long line
+//     (L.origin lines.now) (L.yielded lines.now) long line
 //     × Appends (W.written out.old) (W.written out.new) line) }
 // ensures worked { OnOk result (HasWorked (W.counts out.new)) }
 // ensures err { IfErr result (λ refusal. StopsPrinting
-//     (λ printed. IsNextLine (L.tail lines.now) (L.begun lines.now) (L.given lines.now) long
+//     (λ printed. IsNextLine (L.tail lines.now) (L.origin lines.now) (L.yielded lines.now) long
 //     printed.output)
-//     (IsNextLine (L.tail lines.now) (L.begun lines.now) (L.given lines.now) false) refusal
+//     (IsNextLine (L.tail lines.now) (L.origin lines.now) (L.yielded lines.now) false) refusal
 //     (output_after (W.written out.old) (W.written out.new) (W.counts out.new))) }
 fn give_next<L: Lines, W: Sink>(
     alloc: Global,
     lines: &L,
     long: bool,
     out: &mut W,
-    interruptions: &mut Interruptions,
+    interruptions: &mut RetryCount,
 ) -> Result<(), Refusal> {
     let next = next_line(lines.cursor());
     if long {
         return match long_next_line(alloc, lines) {
-            Ok(line) => give_all(out, interruptions, line.as_bytes()),
+            Ok(line) => write_all(out, interruptions, line.as_bytes()),
             Err(Memory) => Err(stop_for_memory(out, interruptions, b"", &next)),
         };
     }
-    give_all(out, interruptions, next.as_bytes())
+    write_all(out, interruptions, next.as_bytes())
 }
 
-/// What the last line says: how the printing ended, `None` at its limit, and whether it tells where
-/// to go on by a long cursor.
+/// What the last line says: how the printing ended, `None` at its limit, and whether it says where
+/// to continue by a long cursor.
 #[derive(Clone, Copy)]
 struct LastLine {
     ending: Option<End>,
     long: bool,
 }
 
-/// Writes the last line of the output: `end`, or where to go on, or none for a cursor outside of
+/// Writes the last line of the output: `end`, or where to continue, or none for a cursor outside of
 /// the file. Where printing ended at its limit there is no end.
 // requires { W.counts out.old ≡ counted interruptions.old }
 // ensures ok { OnOk result ((line : List ℕ) × IsLastLine (L.tail lines.now)
-//     (L.begun lines.now) (L.given lines.now) last.long last.ending line
+//     (L.origin lines.now) (L.yielded lines.now) last.long last.ending line
 //     × Appends (W.written out.old) (W.written out.new) line) }
 // ensures worked { OnOk result (HasWorked (W.counts out.new)) }
 // ensures err { IfErr result (λ refusal. StopsPrinting
-//     (λ printed. IsLastLine (L.tail lines.now) (L.begun lines.now) (L.given lines.now)
+//     (λ printed. IsLastLine (L.tail lines.now) (L.origin lines.now) (L.yielded lines.now)
 //     last.long last.ending printed.output)
-//     (IsNextLine (L.tail lines.now) (L.begun lines.now) (L.given lines.now) false) refusal
+//     (IsNextLine (L.tail lines.now) (L.origin lines.now) (L.yielded lines.now) false) refusal
 //     (output_after (W.written out.old) (W.written out.new) (W.counts out.new))) }
 fn give_last_line<L: Lines, W: Sink>(
     alloc: Global,
     lines: &L,
     last: LastLine,
     out: &mut W,
-    interruptions: &mut Interruptions,
+    interruptions: &mut RetryCount,
 ) -> Result<(), Refusal> {
     match last.ending {
-        Some(End::Proper) => give_all(out, interruptions, b"end\n"),
-        Some(End::Outside) => give_all(out, interruptions, b""),
+        Some(End::EndOfPages) => write_all(out, interruptions, b"end\n"),
+        Some(End::Outside) => write_all(out, interruptions, b""),
         Some(End::Fault { .. }) => give_next(alloc, lines, last.long, out, interruptions),
         None => give_next(alloc, lines, last.long, out, interruptions),
     }
@@ -234,14 +235,14 @@ fn give_last_line<L: Lines, W: Sink>(
 /// Prints the lines, up to the limit, and the last line, and answers the line of their fault, if
 /// there is one.
 // requires counts { W.counts out.old ≡ no_faults }
-// requires fresh { L.given lines.old ≡ 0 }
+// requires fresh { L.yielded lines.old ≡ 0 }
 // ensures ok { IfOk result (WritesOutput
-//     (IsTextOfLines (L.tail lines.old) long max (L.begun lines.old))
+//     (IsTextOfLines (L.tail lines.old) long max (L.origin lines.old))
 //     (output_after (W.written out.old) (W.written out.new) (W.counts out.new))) }
 // ensures worked { OnOk result (HasWorked (W.counts out.new)) }
 // ensures err { IfErr result (λ refusal. StopsPrinting
-//     (IsTextOfLines (L.tail lines.old) long max (L.begun lines.old))
-//     (IsTextOfFirst (L.tail lines.old) max (L.begun lines.old)) refusal
+//     (IsTextOfLines (L.tail lines.old) long max (L.origin lines.old))
+//     (IsTextOfFirst (L.tail lines.old) max (L.origin lines.old)) refusal
 //     (output_after (W.written out.old) (W.written out.new) (W.counts out.new))) }
 fn print_all<L: Lines, W: Sink>(
     alloc: Global,
@@ -250,25 +251,25 @@ fn print_all<L: Lines, W: Sink>(
     long: bool,
     out: &mut W,
 ) -> Result<Option<ErrorLine>, Refusal> {
-    lines.are_one();
-    let mut interruptions = Interruptions::NONE;
+    lines.lemma_one();
+    let mut interruptions = RetryCount::NONE;
     let ending = print_lines(alloc, lines, max, out, &mut interruptions)?;
     let last = LastLine { ending, long };
     give_last_line(alloc, lines, last, out, &mut interruptions)?;
     Ok(end_line(ending))
 }
 
-/// Reads the input whole. Where memory is refused it writes where to go on: at this cursor.
+/// Reads the input whole. Where memory is refused it writes where to continue: at this cursor.
 // requires input_counts { R.counts input.old ≡ no_faults }
 // requires taken { R.taken input.old ≡ 0 }
 // requires counts { W.counts out.old ≡ no_faults }
-// ensures whole { IfOk result (λ file. IfSome (R.left input.old) (λ bytes. file.items ≡ bytes)) }
+// ensures whole { IfOk result (λ file. IfSome (R.remaining input.old) (λ bytes. file.items ≡ bytes)) }
 // ensures limit { IfOk result (λ file. vec_len file ≤ max_file) }
 // ensures read { OnOk result (IsRead
-//     (input_after (R.left input.old) (R.taken input.new) (R.counts input.new))) }
+//     (input_after (R.remaining input.old) (R.taken input.new) (R.counts input.new))) }
 // ensures unwritten { OnOk result (out.new ≡ out.old) }
-// ensures err { IfErr result (λ refusal. StopsAtBeginning (next_line (At cursor)) refusal
-//     (input_after (R.left input.old) (R.taken input.new) (R.counts input.new))
+// ensures err { IfErr result (λ refusal. StopsAtBeginning (next_line (AtCursor cursor)) refusal
+//     (input_after (R.remaining input.old) (R.taken input.new) (R.counts input.new))
 //     (output_after (W.written out.old) (W.written out.new) (W.counts out.new))) }
 fn read_or_stop<R: Source, W: Sink>(
     alloc: Global,
@@ -276,11 +277,11 @@ fn read_or_stop<R: Source, W: Sink>(
     input: &mut R,
     out: &mut W,
 ) -> Result<Vec<u8>, Refusal> {
-    match read_whole(alloc, input) {
+    match read_to_end(alloc, input) {
         Ok(file) => Ok(file),
         Err(refusal) => match refusal {
             Refusal::Memory => {
-                let mut interruptions = Interruptions::NONE;
+                let mut interruptions = RetryCount::NONE;
                 let next = next_line(cursor);
                 Err(stop_for_memory(out, &mut interruptions, b"", &next))
             }
@@ -289,18 +290,18 @@ fn read_or_stop<R: Source, W: Sink>(
     }
 }
 
-/// What the rows of a part begin with. Where memory is refused it writes where to go on: there.
+/// What the rows of a part begin with. Where memory is refused it writes where to continue: there.
 // requires { W.counts out.old ≡ no_faults }
-// ensures ok { IfOk result (λ begun. begun ≡ begun_of part.now) }
+// ensures ok { IfOk result (λ origin. origin ≡ origin_of part.now) }
 // ensures unwritten { OnOk result (out.new ≡ out.old) }
 // ensures err { IfErr result (λ refusal. StopsWith
-//     (next_line (At (begun_cursor (begun_of part.now)))) refusal
+//     (next_line (AtCursor (start_cursor (origin_of part.now)))) refusal
 //     (output_after (W.written out.old) (W.written out.new) (W.counts out.new))) }
-fn begin_or_stop<W: Sink>(part: &Selection, out: &mut W) -> Result<Begun, Refusal> {
-    match part.begun() {
-        Ok(begun) => Ok(begun),
+fn begin_or_stop<W: Sink>(part: &Selection, out: &mut W) -> Result<WalkStart, Refusal> {
+    match part.origin() {
+        Ok(origin) => Ok(origin),
         Err(Memory) => {
-            let mut interruptions = Interruptions::NONE;
+            let mut interruptions = RetryCount::NONE;
             let next = next_line(part.begin());
             Err(stop_for_memory(out, &mut interruptions, b"", &next))
         }
@@ -308,16 +309,16 @@ fn begin_or_stop<W: Sink>(part: &Selection, out: &mut W) -> Result<Begun, Refusa
 }
 
 /// Reads the input whole and prints the rows of its pages from the cursor on, up to the limit, and
-/// then `end`, or `next` with the place of the row that was due: a long cursor where the part asks
-/// for it and there is one.
+/// then `end`, or `next` with the place of the next row: a long cursor where the part asks for it
+/// and there is one.
 // requires input_counts { R.counts input.old ≡ no_faults }
 // requires taken { R.taken input.old ≡ 0 }
 // requires counts { W.counts out.old ≡ no_faults }
 // ensures ok { IfOk result (IsDone (Rows part.now)
-//     (input_after (R.left input.old) (R.taken input.new) (R.counts input.new))
+//     (input_after (R.remaining input.old) (R.taken input.new) (R.counts input.new))
 //     (output_after (W.written out.old) (W.written out.new) (W.counts out.new))) }
 // ensures err { IfErr result (λ refusal. IsStopped (Rows part.now) refusal
-//     (input_after (R.left input.old) (R.taken input.new) (R.counts input.new))
+//     (input_after (R.remaining input.old) (R.taken input.new) (R.counts input.new))
 //     (output_after (W.written out.old) (W.written out.new) (W.counts out.new))) }
 pub fn rows<R: Source, W: Sink>(
     alloc: Global,
@@ -325,22 +326,22 @@ pub fn rows<R: Source, W: Sink>(
     input: &mut R,
     out: &mut W,
 ) -> Result<Option<ErrorLine>, Refusal> {
-    let begun = begin_or_stop(part, out)?;
+    let origin = begin_or_stop(part, out)?;
     let file = read_or_stop(alloc, part.begin(), input, out)?;
-    let mut walk = Walk::begin(alloc, &file, begun);
+    let mut walk = Walk::begin(alloc, &file, origin);
     print_all(alloc, &mut walk, part.max, part.long, out)
 }
 
 /// Reads the input whole and prints the forms of its pages from the cursor on, up to the limit, and
-/// then `end`, or `next` with the place of the page that was due.
+/// then `end`, or `next` with the place of the next page.
 // requires input_counts { R.counts input.old ≡ no_faults }
 // requires taken { R.taken input.old ≡ 0 }
 // requires counts { W.counts out.old ≡ no_faults }
 // ensures ok { IfOk result (IsDone (Forms part.now)
-//     (input_after (R.left input.old) (R.taken input.new) (R.counts input.new))
+//     (input_after (R.remaining input.old) (R.taken input.new) (R.counts input.new))
 //     (output_after (W.written out.old) (W.written out.new) (W.counts out.new))) }
 // ensures err { IfErr result (λ refusal. IsStopped (Forms part.now) refusal
-//     (input_after (R.left input.old) (R.taken input.new) (R.counts input.new))
+//     (input_after (R.remaining input.old) (R.taken input.new) (R.counts input.new))
 //     (output_after (W.written out.old) (W.written out.new) (W.counts out.new))) }
 pub fn list<R: Source, W: Sink>(
     alloc: Global,

@@ -1,7 +1,7 @@
 // Made by tools/plain-rust of crates/fax_tool/src/commands/printed_lines.rt: change that.
 //! What is printed line by line: the rows of a file, or its pages.
 
-use crate::text::collected::Collected;
+use crate::text::output_buffer::OutputBuffer;
 use crate::text::page_line::put_page_line;
 use crate::text::row_line::put_row_line;
 use fax_bits::Memory;
@@ -12,32 +12,32 @@ use kit_std::alloc::Global;
 /// which no call changes, what they began with, how many were collected, and a number that each
 /// line makes less.
 pub trait Lines {
-    /// The cursor after what the last line told, or the one that the lines began with.
-    // ensures { (next : Begun)
-    //     × IsNextAfter (tail self.now) (begun self.now) (given self.now) next
-    //     × (result ≡ begun_cursor next) }
+    /// The cursor after what the last line reported, or the one that the lines began with.
+    // ensures { (next : WalkStart)
+    //     × IsNextAfter (tail self.now) (origin self.now) (yielded self.now) next
+    //     × (result ≡ start_cursor next) }
     fn cursor(&self) -> Cursor;
 
-    /// The place inside a strip after what the last line told, or the one that the lines began
+    /// The place inside a strip after what the last line reported, or the one that the lines began
     /// with, if there is one.
-    // ensures { IfOk result (λ place. (next : Begun)
-    //     × IsNextAfter (tail self.now) (begun self.now) (given self.now) next
-    //     × (place ≡ begun_place next)) }
+    // ensures { IfOk result (λ place. (next : WalkStart)
+    //     × IsNextAfter (tail self.now) (origin self.now) (yielded self.now) next
+    //     × (place ≡ start_place next)) }
     fn long_cursor(&self, alloc: Global) -> Result<Option<LongCursor>, Memory>;
 
     /// Collects the next line after the text, or answers how the lines ended. Where memory is
     /// refused the text is as it was.
     // ensures tail { (lines : List PrintedLine) (end : TheEnd) → tail self.old lines end
     //     ↔ tail self.new lines end }
-    // ensures begun { begun self.new ≡ begun self.old }
-    // ensures fewer { IfOk result (λ end. end ≡ None → left self.new < left self.old) }
-    // ensures put { IsLinePut (tail self.old) (given self.old) text.old result (given self.new)
+    // ensures origin { origin self.new ≡ origin self.old }
+    // ensures fewer { IfOk result (λ end. end ≡ None → remaining self.new < remaining self.old) }
+    // ensures put { IsLinePut (tail self.old) (yielded self.old) text.old result (yielded self.new)
     //     text.new }
-    fn put_next(&mut self, text: &mut Collected) -> Result<Option<End>, Memory>;
+    fn put_next(&mut self, text: &mut OutputBuffer) -> Result<Option<End>, Memory>;
 
     /// The lines and the end after them are one. It computes nothing.
     // ensures { IsOne (tail self.now) }
-    fn are_one(&self);
+    fn lemma_one(&self);
 }
 
 /// How lines end where a walk or a reader of pages answers so; want of memory is no end.
@@ -60,18 +60,18 @@ impl Lines for Walk<'_> {
         Walk::long_cursor(self, alloc)
     }
 
-    fn put_next(&mut self, text: &mut Collected) -> Result<Option<End>, Memory> {
+    fn put_next(&mut self, text: &mut OutputBuffer) -> Result<Option<End>, Memory> {
         match self.next_row() {
             Ok(Some((place, row))) => {
                 put_row_line(text, place, row)?;
                 Ok(None)
             }
-            Ok(None) => Ok(Some(End::Proper)),
+            Ok(None) => Ok(Some(End::EndOfPages)),
             Err(fault) => Ok(Some(end_of(fault)?)),
         }
     }
 
-    fn are_one(&self) {}
+    fn lemma_one(&self) {}
 }
 
 /// A line for each page.
@@ -86,16 +86,16 @@ impl Lines for Pages<'_> {
         Ok(None)
     }
 
-    fn put_next(&mut self, text: &mut Collected) -> Result<Option<End>, Memory> {
+    fn put_next(&mut self, text: &mut OutputBuffer) -> Result<Option<End>, Memory> {
         match self.next_page() {
             Ok(Some((page, form))) => {
                 put_page_line(text, page, &form)?;
                 Ok(None)
             }
-            Ok(None) => Ok(Some(End::Proper)),
+            Ok(None) => Ok(Some(End::EndOfPages)),
             Err(fault) => Ok(Some(end_of(fault)?)),
         }
     }
 
-    fn are_one(&self) {}
+    fn lemma_one(&self) {}
 }

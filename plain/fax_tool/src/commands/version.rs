@@ -3,10 +3,10 @@
 
 use crate::refusal::Refusal;
 use crate::streams::Sink;
-use crate::streams::transfer::{Interruptions, give_all};
+use crate::streams::transfer::{RetryCount, write_all};
 
 /// The program's name and the version, which is that of the file `VERSION`.
-const VERSION_TEXT: &str = "faxpages 1.11.0\n";
+const VERSION_TEXT: &str = "faxpages 1.12.0\n";
 
 /// Writes the version.
 // requires { W.counts out.old ≡ no_faults }
@@ -15,6 +15,6 @@ const VERSION_TEXT: &str = "faxpages 1.11.0\n";
 // ensures err { IfErr result (IsGivenInPart (W.written out.old) (W.written out.new) version_text
 //     (W.counts out.new)) }
 pub fn version<W: Sink>(out: &mut W) -> Result<(), Refusal> {
-    let mut interruptions = Interruptions::NONE;
-    give_all(out, &mut interruptions, VERSION_TEXT.as_bytes())
+    let mut interruptions = RetryCount::NONE;
+    write_all(out, &mut interruptions, VERSION_TEXT.as_bytes())
 }

@@ -4,7 +4,7 @@
 use kit_std::prelude::{Vec, vec};
 
 use crate::refusal::Refusal;
-use crate::streams::held::Held;
+use crate::streams::input_buffer::InputBuffer;
 use crate::streams::{Sink, Source, StreamFault};
 use fax_files::MAX_FILE;
 use kit_std::alloc::Global;
@@ -25,19 +25,19 @@ const FIRST_ROOM: usize = 4 * CHUNK;
 const MOST_INTERRUPTED: u32 = 1_023;
 
 /// How many calls on a stream were interrupted, and made again. Contracts see the number.
-pub struct Interruptions {
+pub struct RetryCount {
     count: u32,
 }
 
-impl Model for Interruptions {}
+impl Model for RetryCount {}
 
-impl Interruptions {
+impl RetryCount {
     /// No call was interrupted.
-    pub const NONE: Interruptions = Interruptions { count: 0 };
+    pub const NONE: RetryCount = RetryCount { count: 0 };
 
     /// They are not too many. It computes nothing.
     // ensures { self.now ≤ most_interrupted }
-    pub(crate) fn are_few(&self) {
+    pub(crate) fn lemma_few(&self) {
         let _ = &self.count;
     }
 
@@ -73,30 +73,30 @@ pub(crate) fn zero_bytes(alloc: Global, len: usize) -> Result<Vec<u8>, Refusal> 
 ///
 /// # Errors
 ///
-/// `Memory` where a growth was refused; else as `Held::fill`.
+/// `Memory` where a growth was refused; else as `InputBuffer::fill`.
 // requires counts { R.counts input.old ≡ counted interruptions.old }
 // requires taken { R.taken input.old ≡ held.taken }
 // requires all { held.taken ≡ length held.bytes }
-// requires end { ended ≡ true → IsAtEnd (R.left input.old) }
+// requires end { ended ≡ true → IsAtEnd (R.remaining input.old) }
 // ensures whole { IfOk result (λ file. (text : List ℕ) × (file.items ≡ held.bytes ++ text)
-//     × Consumes (R.left input.old) (R.left input.new) text × IsAtEnd (R.left input.new)) }
+//     × Consumes (R.remaining input.old) (R.remaining input.new) text × IsAtEnd (R.remaining input.new)) }
 // ensures limit { IfOk result (λ file. vec_len file ≤ max_file) }
 // ensures read { OnOk result (IsRead
-//     (input_after (R.left input.old) (R.taken input.new) (R.counts input.new))) }
+//     (input_after (R.remaining input.old) (R.taken input.new) (R.counts input.new))) }
 // ensures reason { IfErr result (λ refusal. HasReadReason refusal
-//     (input_after (R.left input.old) (R.taken input.new) (R.counts input.new))) }
+//     (input_after (R.remaining input.old) (R.taken input.new) (R.counts input.new))) }
 pub(crate) fn read_rest<R: Source>(
     alloc: Global,
     input: &mut R,
-    interruptions: &mut Interruptions,
-    mut held: Held,
+    interruptions: &mut RetryCount,
+    mut held: InputBuffer,
     mut ended: bool,
 ) -> Result<Vec<u8>, Refusal> {
-    interruptions.are_few();
+    interruptions.lemma_few();
     let mut file = Vec::new(alloc);
     file.reserve(FIRST_ROOM).map_err(|_| Refusal::Memory)?;
     loop {
-        interruptions.are_few();
+        interruptions.lemma_few();
         if file.extend_from_slice(held.bytes()).is_err() {
             return Err(Refusal::Memory);
         }
@@ -116,15 +116,15 @@ pub(crate) fn read_rest<R: Source>(
 /// source has more bytes.
 // requires counts { R.counts input.old ≡ no_faults }
 // requires taken { R.taken input.old ≡ 0 }
-// ensures whole { IfOk result (λ file. IfSome (R.left input.old) (λ bytes. file.items ≡ bytes)) }
+// ensures whole { IfOk result (λ file. IfSome (R.remaining input.old) (λ bytes. file.items ≡ bytes)) }
 // ensures limit { IfOk result (λ file. vec_len file ≤ max_file) }
 // ensures read { OnOk result (IsRead
-//     (input_after (R.left input.old) (R.taken input.new) (R.counts input.new))) }
+//     (input_after (R.remaining input.old) (R.taken input.new) (R.counts input.new))) }
 // ensures reason { IfErr result (λ refusal. HasReadReason refusal
-//     (input_after (R.left input.old) (R.taken input.new) (R.counts input.new))) }
-pub fn read_whole<R: Source>(alloc: Global, input: &mut R) -> Result<Vec<u8>, Refusal> {
-    let mut interruptions = Interruptions::NONE;
-    let mut held = Held::new(alloc, CHUNK)?;
+//     (input_after (R.remaining input.old) (R.taken input.new) (R.counts input.new))) }
+pub fn read_to_end<R: Source>(alloc: Global, input: &mut R) -> Result<Vec<u8>, Refusal> {
+    let mut interruptions = RetryCount::NONE;
+    let mut held = InputBuffer::new(alloc, CHUNK)?;
     let ended = held.fill(input, &mut interruptions)?;
     read_rest(alloc, input, &mut interruptions, held, ended)
 }
@@ -141,9 +141,9 @@ pub fn read_whole<R: Source>(alloc: Global, input: &mut R) -> Result<Vec<u8>, Re
 // ensures worked { OnOk result (HasWorked (W.counts out.new)) }
 // ensures err { IfErr result (IsGivenInPart (W.written out.old)
 //     (W.written out.new) bytes.now (W.counts out.new)) }
-pub fn give_all<W: Sink>(
+pub fn write_all<W: Sink>(
     out: &mut W,
-    interruptions: &mut Interruptions,
+    interruptions: &mut RetryCount,
     bytes: &[u8],
 ) -> Result<(), Refusal> {
     let mut rest = bytes;
@@ -157,6 +157,6 @@ pub fn give_all<W: Sink>(
             }
         }
     }
-    interruptions.are_few();
+    interruptions.lemma_few();
     Ok(())
 }

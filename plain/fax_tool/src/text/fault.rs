@@ -15,8 +15,8 @@ pub struct ErrorLine {
 
 impl Model for ErrorLine {}
 
-/// The line of a fault where a row was due: `fault page P row R`, the fault's name, and the tag of
-/// the field at fault.
+/// The line of a fault where a row was expected: `fault page P row R`, the fault's name, and the
+/// tag of the field at fault.
 // ensures { result ≡ fault_line page row cause }
 pub fn row_fault_line(page: u32, row: u32, cause: Cause) -> ErrorLine {
     let (name, tag) = cause.name();
@@ -67,7 +67,7 @@ impl ErrorLine {
 // ensures { result ≡ Spec.end_line ending }
 pub fn end_line(ending: Option<End>) -> Option<ErrorLine> {
     match ending {
-        None | Some(End::Proper) => None,
+        None | Some(End::EndOfPages) => None,
         Some(End::Outside) => Some(fixed_line("fault cursor: CursorOutside\n")),
         Some(End::Fault { page, row, cause }) => Some(row_fault_line(page, row, cause)),
     }

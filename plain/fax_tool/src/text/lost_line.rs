@@ -1,11 +1,11 @@
 // Made by tools/plain-rust of crates/fax_tool/src/text/lost_line.rt: change that.
 //! The lines of what is lost: of rows, and of a page whose form is refused.
 
-use crate::text::collected::Collected;
+use crate::text::output_buffer::OutputBuffer;
 use crate::text::push_number;
 use arrayvec::ArrayString;
 use fax_bits::Memory;
-use fax_walk::{Cause, FileFault, Stretch};
+use fax_walk::{Cause, FileFault, LostRows};
 
 /// A line of what is lost, which is made without memory.
 type LostLine = ArrayString<80>;
@@ -26,7 +26,7 @@ fn push_fault(line: &mut LostLine, cause: Cause) {
 /// The line of rows that are lost: `lost P R N`, the first of them, how many, and the first one's
 /// fault.
 // ensures { result.bytes ≡ Spec.lost_line lost.page lost.row lost.rows lost.cause }
-fn lost_line(lost: Stretch) -> LostLine {
+fn lost_line(lost: LostRows) -> LostLine {
     let mut line = LostLine::new();
     line.push_str("lost");
     push_number(&mut line, lost.page);
@@ -50,13 +50,13 @@ fn refused_line(page: u32, fault: FileFault) -> LostLine {
 // ensures ok { OnOk result
 //     (text.new ≡ text.old ++ Spec.lost_line lost.page lost.row lost.rows lost.cause) }
 // ensures err { OnErr result (text.new ≡ text.old) }
-pub fn put_lost_line(text: &mut Collected, lost: Stretch) -> Result<(), Memory> {
+pub fn put_lost_line(text: &mut OutputBuffer, lost: LostRows) -> Result<(), Memory> {
     text.put(lost_line(lost).as_str())
 }
 
 /// Appends the line of a page whose form is refused.
 // ensures ok { OnOk result (text.new ≡ text.old ++ Spec.refused_line page (File fault)) }
 // ensures err { OnErr result (text.new ≡ text.old) }
-pub fn put_refused_line(text: &mut Collected, page: u32, fault: FileFault) -> Result<(), Memory> {
+pub fn put_refused_line(text: &mut OutputBuffer, page: u32, fault: FileFault) -> Result<(), Memory> {
     text.put(refused_line(page, fault).as_str())
 }

@@ -1,7 +1,7 @@
 // Made by tools/plain-rust of crates/fax_tool/src/text/page_line.rt: change that.
 //! The line of a page.
 
-use crate::text::collected::Collected;
+use crate::text::output_buffer::OutputBuffer;
 use crate::text::push_number;
 use arrayvec::ArrayString;
 use fax_bits::Memory;
@@ -64,6 +64,6 @@ fn page_line(page: u32, form: &PageForm) -> PageLine {
 /// Appends the line of a page.
 // ensures ok { OnOk result (text.new ≡ text.old ++ page_line_of page form.now) }
 // ensures err { OnErr result (text.new ≡ text.old) }
-pub fn put_page_line(text: &mut Collected, page: u32, form: &PageForm) -> Result<(), Memory> {
+pub fn put_page_line(text: &mut OutputBuffer, page: u32, form: &PageForm) -> Result<(), Memory> {
     text.put(page_line(page, form).as_str())
 }

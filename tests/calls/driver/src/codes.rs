@@ -14,16 +14,16 @@ pub fn answer(words: &[&str]) -> Result<Option<String>, WrongLine> {
         ["read_code", table, bits] => code(table, bits)?,
         ["find", table, bits] => found(table, bits)?,
         ["pairs", skip, bits, most] => pairs(skip, bits, most)?,
-        ["pair_within", total, width, bits] => pair_within(total, width, bits)?,
-        ["horizontal_pair_within", total, width, bits] => {
-            horizontal_pair_within(total, width, bits)?
+        ["try_read_run_pair", total, width, bits] => try_read_run_pair(total, width, bits)?,
+        ["try_read_horizontal", total, width, bits] => {
+            try_read_horizontal(total, width, bits)?
         }
-        ["run_within", colour, bits, most] => run_within(colour, bits, most)?,
+        ["try_read_run", colour, bits, most] => try_read_run(colour, bits, most)?,
         ["mode", bits] => looked_up_mode(bits)?,
         ["verticals", bits] => verticals(bits)?,
-        ["past_ones", bits, most] => past_ones(bits, most)?,
-        ["take_run", colour, bits, pels] => take_run(colour, bits, pels)?,
-        ["past_zeros_and_one", bits, least] => past_zeros(bits, least)?,
+        ["skip_ones", bits, most] => skip_ones(bits, most)?,
+        ["skip_run_if_next", colour, bits, pels] => skip_run_if_next(colour, bits, pels)?,
+        ["skip_zeros_and_one", bits, least] => past_zeros(bits, least)?,
         ["put_run", colour, pels] => run(colour, pels)?,
         ["put_short_pair", colour, first, second] => short_pair(colour, first, second)?,
         ["put_mode", mode] => mode_bits(mode)?,
@@ -76,7 +76,7 @@ fn pairs(skip: &str, bits: &str, most: &str) -> Result<String, WrongLine> {
     source.skip(skip);
     let mut text = String::new();
     for _ in 0..8 {
-        match source.pair_within(0, most) {
+        match source.try_read_run_pair(0, most) {
             Some(pair) => text.push_str(&format!("{},{} ", pair.white, pair.black)),
             None => {
                 text.push_str(&format!("{}", source.place()));
@@ -108,26 +108,26 @@ fn pair(
 }
 
 /// The pair at the front of the bits.
-fn pair_within(total: &str, width: &str, bits: &str) -> Result<String, WrongLine> {
+fn try_read_run_pair(total: &str, width: &str, bits: &str) -> Result<String, WrongLine> {
     pair(total, width, bits, |source, total, width| {
-        source.pair_within(total, width)
+        source.try_read_run_pair(total, width)
     })
 }
 
 /// The pair after horizontal mode.
-fn horizontal_pair_within(total: &str, width: &str, bits: &str) -> Result<String, WrongLine> {
+fn try_read_horizontal(total: &str, width: &str, bits: &str) -> Result<String, WrongLine> {
     pair(total, width, bits, |source, total, width| {
-        source.horizontal_pair_within(total, width)
+        source.try_read_horizontal(total, width)
     })
 }
 
 /// The run of at most so many pels that is read, and the place then.
-fn run_within(colour: &str, bits: &str, most: &str) -> Result<String, WrongLine> {
+fn try_read_run(colour: &str, bits: &str, most: &str) -> Result<String, WrongLine> {
     let colour = words::colour(colour)?;
     let bytes = words::bytes(bits)?;
     let most = words::number(most)?;
     let mut source = BitSource::new(&bytes, FillOrder::MsbFirst);
-    match source.run_within(colour, most) {
+    match source.try_read_run(colour, most) {
         Some(pels) => Ok(format!("{pels} {}", source.place())),
         None => Ok(format!("none {}", source.place())),
     }
@@ -164,7 +164,7 @@ fn verticals(bits: &str) -> Result<String, WrongLine> {
 
 /// After a mode, which loads bits: how many ones are next, how many of them are gone past, and the
 /// place after those.
-fn past_ones(bits: &str, most: &str) -> Result<String, WrongLine> {
+fn skip_ones(bits: &str, most: &str) -> Result<String, WrongLine> {
     let most = words::number(most)?;
     let bytes = words::bytes(bits)?;
     let mut source = BitSource::new(&bytes, FillOrder::MsbFirst);
@@ -173,12 +173,12 @@ fn past_ones(bits: &str, most: &str) -> Result<String, WrongLine> {
     }
     let _mode = source.mode::<false>();
     let ones = source.ones();
-    let count = source.past_ones(most);
+    let count = source.skip_ones(most);
     Ok(format!("{ones} {count} {}", source.place()))
 }
 
 /// Whether the codes of a run were gone past, and the place after them.
-fn take_run(colour: &str, bits: &str, pels: &str) -> Result<String, WrongLine> {
+fn skip_run_if_next(colour: &str, bits: &str, pels: &str) -> Result<String, WrongLine> {
     let colour = words::colour(colour)?;
     let pels = words::number(pels)?;
     if pels >= 2560 {
@@ -186,7 +186,7 @@ fn take_run(colour: &str, bits: &str, pels: &str) -> Result<String, WrongLine> {
     }
     let bytes = words::bytes(bits)?;
     let mut source = BitSource::new(&bytes, FillOrder::MsbFirst);
-    let taken = source.take_run(colour, pels);
+    let taken = source.skip_run_if_next(colour, pels);
     Ok(format!("{taken} {}", source.place()))
 }
 
@@ -195,7 +195,7 @@ fn past_zeros(bits: &str, least: &str) -> Result<String, WrongLine> {
     let least = words::number(least)?;
     let bytes = words::bytes(bits)?;
     let mut source = BitSource::new(&bytes, FillOrder::MsbFirst);
-    let past = source.past_zeros_and_one(least);
+    let past = source.skip_zeros_and_one(least);
     Ok(format!("{past} {}", source.place()))
 }
 

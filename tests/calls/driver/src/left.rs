@@ -4,8 +4,8 @@ use crate::files::fault_name;
 use crate::table::WrongLine;
 use crate::{strips, text, words};
 use fax_files::Cause;
-use fax_page::{PlaceFault, RowBefore};
-use fax_walk::{PageLeft, PagePart, Row, RowsFrom, RowsLeft, Salvage, SalvageItem};
+use fax_page::{PlaceFault, ReferenceRow};
+use fax_walk::{DamagedPage, SalvagedPart, Row, RowsFrom, SalvagedRows, Salvage, SalvageItem};
 use kit_std::alloc::Global;
 
 /// What a call of this file answers, or `None` where it has none of that name.
@@ -70,15 +70,15 @@ fn salvaged(calls: &str, file: &str) -> Result<String, WrongLine> {
 }
 
 /// What is left, part after part.
-fn parts(left: &mut RowsLeft, most: u32) -> Result<String, WrongLine> {
+fn parts(left: &mut SalvagedRows, most: u32) -> Result<String, WrongLine> {
     let mut text = String::new();
     for _ in 0..most {
         let Some(part) = left.next_part() else {
             break;
         };
         match part {
-            PagePart::Found => text.push_str(&text::runs(left.row())?),
-            PagePart::Lost { rows, cause } => {
+            SalvagedPart::Found => text.push_str(&text::runs(left.row())?),
+            SalvagedPart::Lost { rows, cause } => {
                 let name = fault_name(cause);
                 text.push_str(&format!("lost:{rows}:{name}"));
             }
@@ -91,7 +91,7 @@ fn parts(left: &mut RowsLeft, most: u32) -> Result<String, WrongLine> {
 /// What is left of a page by its number, with the page's size.
 fn left_of_page(page: &str, file: &str) -> Result<String, WrongLine> {
     let file = words::bytes(file)?;
-    let found = match PageLeft::at(&file, words::number(page)?) {
+    let found = match DamagedPage::at(&file, words::number(page)?) {
         Ok(found) => found,
         Err(end) => return Ok(format!("{end:?}")),
     };
@@ -110,13 +110,13 @@ fn parts_from(left: &mut RowsFrom, most: u32) -> Result<String, WrongLine> {
             break;
         };
         match part {
-            PagePart::Found => {
+            SalvagedPart::Found => {
                 text.push_str(&text::runs(left.row())?);
                 if let Some(place) = left.place() {
                     text.push_str(&format!("@{}", place.bits));
                 }
             }
-            PagePart::Lost { rows, cause } => {
+            SalvagedPart::Lost { rows, cause } => {
                 let name = fault_name(cause);
                 text.push_str(&format!("lost:{rows}:{name}"));
             }
@@ -138,7 +138,7 @@ fn left_from_place(
     if file.len() > 536_870_911 {
         return Err(WrongLine::OutOfLimits);
     }
-    let found = match PageLeft::at(&file, words::number(page)?) {
+    let found = match DamagedPage::at(&file, words::number(page)?) {
         Ok(found) => found,
         Err(end) => return Ok(format!("{end:?}")),
     };
@@ -149,9 +149,9 @@ fn left_from_place(
     }
     let runs = words::numbers(runs)?;
     let before = if runs.is_empty() {
-        RowBefore::White
+        ReferenceRow::White
     } else {
-        RowBefore::Runs(&runs)
+        ReferenceRow::Runs(&runs)
     };
     match found.rows_from(Global, row, bits, before) {
         Ok(mut left) => parts_from(&mut left, form.rows),
@@ -164,7 +164,7 @@ fn left_from_place(
 fn left_of_strip(coding: &str, order: &str, size: &str, bytes: &str) -> Result<String, WrongLine> {
     let form = strips::form(coding, order, size, "plain")?;
     let bytes = words::bytes(bytes)?;
-    let mut left = RowsLeft::of_strip(Global, &bytes, form)?;
+    let mut left = SalvagedRows::of_strip(Global, &bytes, form)?;
     parts(&mut left, form.rows.saturating_add(1))
 }
 
@@ -178,7 +178,7 @@ fn left_uncounted(
     let size = format!("{width}x1");
     let form = strips::form(coding, order, &size, "plain")?;
     let bytes = words::bytes(bytes)?;
-    let mut found = RowsLeft::of_uncounted(Global, &bytes, form)?;
+    let mut found = SalvagedRows::of_uncounted(Global, &bytes, form)?;
     let rows = found.rows;
     let text = parts(&mut found.rows_left, rows)?;
     Ok(format!("{text}{:?} rows {rows}", found.end))

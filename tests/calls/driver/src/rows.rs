@@ -4,7 +4,7 @@ use crate::table::WrongLine;
 use crate::{text, words};
 use fax_rows::{
     BitSink, BitSource, FillOrder, LongestRuns, Row, RowFault, b1_b2, first_other, put_1d, put_2d,
-    read_1d, read_2d, take_white_1d, take_white_2d,
+    read_1d, read_2d, skip_white_1d, skip_white_2d,
 };
 use kit_std::alloc::Global;
 
@@ -69,8 +69,8 @@ fn take_white(dimension: &str, row: &str, bits: &str) -> Result<String, WrongLin
     }
     source.skip(1);
     let taken = match dimension {
-        "1d" => take_white_1d(&mut source, &row),
-        "2d" => take_white_2d(&mut source, &row),
+        "1d" => skip_white_1d(&mut source, &row),
+        "2d" => skip_white_2d(&mut source, &row),
         _ => return Err(WrongLine::BadWord),
     };
     Ok(format!("{taken} {}", source.place()))

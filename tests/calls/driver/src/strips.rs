@@ -3,7 +3,7 @@
 use crate::table::WrongLine;
 use crate::{text, words};
 use fax_page::{
-    may_be_end_mark, strip_notes, Coding, NotesFault, PlaceFault, Row, RowBefore, SalvageReader, Salvaged,
+    may_be_end_mark, strip_notes, Coding, NotesFault, PlaceFault, Row, ReferenceRow, SalvageReader, Salvaged,
     StripForm, StripReader, StripWriter, UncountedSalvage,
 };
 use fax_rows::BitSource;
@@ -231,7 +231,7 @@ fn read_inside(
     if row >= form.rows {
         return Err(WrongLine::OutOfLimits);
     }
-    match StripReader::inside(Global, &bytes, form, row, place, RowBefore::Runs(&runs)) {
+    match StripReader::inside(Global, &bytes, form, row, place, ReferenceRow::Runs(&runs)) {
         Ok(mut reader) => calls(&mut reader, (form.rows - row).saturating_add(2)),
         Err(PlaceFault::Memory) => Err(WrongLine::Memory),
         Err(PlaceFault::Outside) => Ok("outside".to_owned()),

@@ -4,15 +4,15 @@ use Rattle.fax_bits.specs.code.TableLaws.{length-run_table, run_table_has_short_
 use Rattle.fax_bits.proofs.TablePlaceLemmas.{found_by_place, none_by_place, aligned_fits}
 use Rattle.fax_bits.proofs.run_codes.find_run.Goals as goal
 
-pub run_place-place-requires : goal.run_place-place-requires
-run_place-place-requires c = aligned_fits c.args.n c.args.window c.requires.few c.requires.fits
+pub run_index-place-requires : goal.run_index-place-requires
+run_index-place-requires c = aligned_fits c.args.n c.args.window c.requires.few c.requires.fits
 
 pub returns-then-place-lt-RUN_ENTRIES : goal.returns-then-place-lt-RUN_ENTRIES
 returns-then-place-lt-RUN_ENTRIES c =
     let colour = c.args.colour in
     found_by_place (run_table colour) (run_table_has_short_codes colour) (run_table_is_prefix_free colour) c.args.n
     c.args.window
-    c.run_place-place.result c.requires.few c.requires.fits c.run_place-place.ensures c.run_entry.result
+    c.run_index-place.result c.requires.few c.requires.fits c.run_index-place.ensures c.run_entry.result
     c.run_entry.ensures.found
     c.within.result c.within.ensures
 
@@ -21,5 +21,5 @@ returns-else-place-lt-RUN_ENTRIES c =
     let colour = c.args.colour in
     none_by_place (run_table colour) (run_table_has_short_codes colour) (run_table_is_prefix_free colour) c.args.n
     c.args.window
-    c.run_place-place.result c.requires.few c.requires.fits c.run_place-place.ensures
+    c.run_index-place.result c.requires.few c.requires.fits c.run_index-place.ensures
     (omega (arith, length-run_table colour, c.if-place-lt-RUN_ENTRIES.false))

@@ -18,18 +18,19 @@ cut xs at len n same =
     let count : at + len - at ≡ n = omega (arith, same) in
     ap (λ k. take k (drop at xs)) count
 
-row_due : (form : StripForm) (k stride first i : ℕ) (raster : List ℕ) (writer : WriterState)
+upcoming_row : (form : StripForm) (k stride first i : ℕ) (raster : List ℕ) (writer : WriterState)
     → HasPut form k (rows_of_raster form.width stride raster first i) writer → writer.row ≡ i
-row_due form k stride first i raster writer put =
+upcoming_row form k stride first i raster writer put =
     ap (λ (w : WriterState). w.row) put ∙ length-map-range_with_len (raster_row form.width stride raster) first i
 
-pub put_row-requires-clause-due : goal.put_row-requires-clause-due
-put_row-requires-clause-due c =
+pub put_row-requires-clause-upcoming : goal.put_row-requires-clause-upcoming
+put_row-requires-clause-upcoming c =
     let put = c.loop-i.invariant.put in
-    let due = row_due c.args.form c.args.k c.args.stride c.args.first c.loop-i.i c.args.raster.now c.loop-i.writer put
+    let upcoming = upcoming_row c.args.form c.args.k c.args.stride c.args.first c.loop-i.i c.args.raster.now
+    c.loop-i.writer put
     in
     let rows = ap (λ (w : WriterState). w.form.rows) put in
-    omega (arith, due, rows, c.loop-i-test.true)
+    omega (arith, upcoming, rows, c.loop-i-test.true)
 
 pub loop-i-preserved : goal.loop-i-preserved
 loop-i-preserved c =
@@ -52,10 +53,11 @@ loop-i-preserved c =
 pub finish-requires : goal.finish-requires
 finish-requires c =
     let put = c.loop-i.invariant.put in
-    let due = row_due c.args.form c.args.k c.args.stride c.args.first c.loop-i.i c.args.raster.now c.loop-i.writer put
+    let upcoming = upcoming_row c.args.form c.args.k c.args.stride c.args.first c.loop-i.i c.args.raster.now
+    c.loop-i.writer put
     in
     let rows = ap (λ (w : WriterState). w.form.rows) put in
-    record { all_put = λ fine. omega (arith, due, rows, c.loop-i-test.false, c.loop-i.auto.i-end) }
+    record { all_put = λ fine. omega (arith, upcoming, rows, c.loop-i-test.false, c.loop-i.auto.i-end) }
 
 pub returns : goal.returns
 returns c =

@@ -6,7 +6,7 @@ use Rattle.fax_c.proofs.forms.fill_forms.Given as goal
 abbrev pub invariant-loop-count : goal.invariant-loop-count
 invariant-loop-count l = record {
   law : CursorsHaveOneFormTail;
-  so_far : AreFormsWritten l.initial.pages.file l.initial.pages.begun l.pages l.count l.initial.forms l.forms;
+  so_far : AreFormsWritten l.initial.pages.file l.initial.pages.origin l.pages l.count l.initial.forms l.forms;
 }
 
 abbrev pub decreases-loop-count : goal.decreases-loop-count

@@ -11,7 +11,7 @@ invariant-loop-count l = record {
   table : List FaxRow;
   lie : List FaxRow;
   asked : length table ≡ l.fn.asked;
-  so_far : AreRowsWritten (padded_row l.fn.stride) l.initial.walk.file l.initial.walk.begun l.walk l.count l.used table
+  so_far : AreRowsWritten (padded_row l.fn.stride) l.initial.walk.file l.initial.walk.origin l.walk l.count l.used table
       lie l.initial.out l.out;
 }
 

@@ -18,7 +18,7 @@ loop-count-preserved g c = record {
   law = c.loop-count.invariant.law;
   so_far = one_more c.loop-count.invariant.law c.loop-count.invariant.so_far c.in-Ok.row c.put_next.new.walk
       c.put_next.new.out (omega (arith, c.loop-count-test.true)) c.in-Ok.ensures.put;
-  kept = kept_on _ _ _ c.loop-count.invariant.kept c.place_before.ensures.kept;
+  kept = kept_on _ _ _ c.loop-count.invariant.kept c.bit_offset.ensures.kept;
   place = λ none. absurd (omega (arith, none));
   runs = λ none. absurd (omega (arith, none));
 }
@@ -40,16 +40,16 @@ place_after-requires-clause-told g c = λ some none.
     let walk = walk_stopped c.loop-count.invariant.law so_far c.args.walk.now c.in-Err.stop c.put_next.new.walk
     c.put_next.new.out c.cursor-cursor.result refl refl c.in-Err.ensures.put in
     let room = c.put_next.ensures.room (c.in-Err.is ∙ ap Err none) in
-    after_of c.cursor-cursor.result c.loop-count.count c.place_before.new.place c.place_before.new.runs
+    after_of c.cursor-cursor.result c.loop-count.count c.bit_offset.new.place c.bit_offset.new.runs
     (so_far.same_file ∙ sym walk.same_file) (so_far.same_begun ∙ sym walk.same_begun)
-    (c.place_before.ensures.told some (omega (arith, room)))
+    (c.bit_offset.ensures.told some (omega (arith, room)))
 
 pub returns-in-Err-clause-place : goal.returns-in-Err-clause-place
 returns-in-Err-clause-place g c =
     let walk = walk_stopped c.loop-count.invariant.law c.loop-count.invariant.so_far c.args.walk.now c.in-Err.stop
     c.put_next.new.walk c.put_next.new.out c.cursor-cursor.result refl refl c.in-Err.ensures.put in (
-      kept_on _ _ _ (kept_on _ _ _ c.loop-count.invariant.kept c.place_before.ensures.kept) c.place_after.ensures.0,
-      (λ none. c.place_after.ensures.1 none ∙ c.place_before.ensures.no_runs none ∙ c.loop-count.invariant.runs none),
+      kept_on _ _ _ (kept_on _ _ _ c.loop-count.invariant.kept c.bit_offset.ensures.kept) c.place_after.ensures.0,
+      (λ none. c.place_after.ensures.1 none ∙ c.bit_offset.ensures.no_runs none ∙ c.loop-count.invariant.runs none),
       after_of c.cursor-cursor.result c.loop-count.count c.place_after.new.place c.place_after.new.runs walk.same_file
           walk.same_begun c.place_after.ensures.2,
     )

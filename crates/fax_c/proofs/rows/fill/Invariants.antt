@@ -7,7 +7,7 @@ use Rattle.fax_c.proofs.rows.fill.Given as goal
 abbrev pub invariant-loop-count : goal.invariant-loop-count
 invariant-loop-count g l = record {
   law : BeginningsHaveOneTail;
-  so_far : AreRowsWritten g.F.RowFormat.numbers l.initial.walk.file l.initial.walk.begun l.walk l.count l.used
+  so_far : AreRowsWritten g.F.RowFormat.numbers l.initial.walk.file l.initial.walk.origin l.walk l.count l.used
       l.initial.rows l.rows l.initial.out l.out;
   kept : KeepsRuns l.initial.runs l.runs;
   place : l.count ≡ 0 → l.place ≡ l.initial.place;

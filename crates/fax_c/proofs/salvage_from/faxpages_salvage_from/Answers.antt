@@ -9,7 +9,7 @@ returns-in-Ok c =
       omega (arith, c.if-file-gt-MOST_BYTES.false),
       omega (arith, c.if-runs-lt-MOST_RUNS.false),
       call.result,
-      c.tell.ensures,
+      c.fill_result.ensures,
       inl (
         found.here,
         c.in-Ok.ensures.ok.there,

@@ -2,7 +2,7 @@ use Rattle.fax_c.proofs.SalvagedFromLemmas.{found_ahead, more_lost, none_ahead, 
 use Rattle.fax_c.proofs.salvage_from.next_found.Goals as goal
 
 pub loop-part-init : goal.loop-part-init
-loop-part-init c = none_lost c.args.left.now c.args.page c.args.row c.requires.due c.requires.within
+loop-part-init c = none_lost c.args.remaining.now c.args.page c.args.row c.requires.upcoming c.requires.within
 
 pub returns-in-Found : goal.returns-in-Found
 returns-in-Found c =

@@ -10,7 +10,7 @@ returns-in-Ok-rows c =
     let (rows, are, count, written) = c.fill_left.ensures in
     let of_its = rw start.its_is at are in (
       c.fill_left.result,
-      c.tell-in-Ok-rows.ensures,
+      c.fill_result-in-Ok-rows.ensures,
       inl (
         here,
         there.there,
@@ -28,7 +28,7 @@ returns-in-Ok-rows c =
 pub returns-in-Err-rows : goal.returns-in-Err-rows
 returns-in-Err-rows c = (
   c.nothing-in-Err-rows.result,
-  c.tell-in-Err-rows.ensures,
+  c.fill_result-in-Err-rows.ensures,
   inl (
     c.in-Ok.found.here,
     c.in-Ok.ensures.ok.there,

@@ -6,11 +6,11 @@ use Rattle.fax_c.proofs.salvaged_raster.fill_left.Goals as goal
 
 pub loop-part-init : goal.loop-part-init
 loop-part-init c =
-    let one = c.rows_are_left_in_one_way.ensures.one c.args.left.now.its in
+    let one = c.rows_are_left_in_one_way.ensures.one c.args.remaining.now.its in
     record {
       all = one.rows;
-      so_far = none_yet c.args.left.now one.rows c.args.page c.args.stride c.args.out.now c.args.lost.now
-          c.requires.begun
+      so_far = none_yet c.args.remaining.now one.rows c.args.page c.args.stride c.args.out.now c.args.lost.now
+          c.requires.origin
           one.are;
     }
 

@@ -22,6 +22,6 @@ pub loop-out-preserved : goal.loop-out-preserved
 loop-out-preserved c =
     let short : packed_len (length c.reference.result.now) ≤ c.args.stride =
     rw (c.reference.ensures.width, c.in_default.ensures.same_form, c.loop-out.invariant.same_form) c.requires.stride in
-    one_more c.loop-out.invariant c.bits_stand_by_place.ensures c.read_next.new.reader c.put_in_stride-used.result
+    one_more c.loop-out.invariant c.bits_stand_by_index.ensures c.read_next.new.reader c.put_in_stride-used.result
     c.put_in_stride-used.new.out c.in_default.ensures (rw c.reference.ensures.pels at short)
     (rw c.reference.ensures.pels at c.put_in_stride-used.ensures) c.loop-out.auto.out

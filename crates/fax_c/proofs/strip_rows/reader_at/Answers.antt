@@ -6,7 +6,7 @@ pub returns-in-Err-Memory : goal.returns-in-Err-Memory
 returns-in-Err-Memory c =
     let refused = rw c.in-Err-Memory.field-0-is at c.in-Err-Memory.ensures in
     let there = refused_at c.args.form c.args.strip.now c.args.place.now c.args.runs.now c.in-Some.before
-    c.requires.due c.in-Some.ensures refused in
+    c.requires.upcoming c.in-Some.ensures refused in
     inl (refl, there.0, there.1)
 
 pub returns-in-Err-Outside : goal.returns-in-Err-Outside

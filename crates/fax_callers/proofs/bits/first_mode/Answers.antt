@@ -7,5 +7,5 @@ use Rattle.fax_callers.proofs.bits.first_mode.Goals as goal
 pub returns : goal.returns
 returns c = (
   _,
-  ap (λ (source : Source). read_code modes source.left) (sym c.new-source.ensures) ∙ c.read_code.ensures.read,
+  ap (λ (source : Source). read_code modes source.remaining) (sym c.new-source.ensures) ∙ c.read_code.ensures.read,
 )

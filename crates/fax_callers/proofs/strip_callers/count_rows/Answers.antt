@@ -12,7 +12,7 @@ loop-count-preserved c =
     let rows = so_far.3 ++ new.reference ∷ [] in (
       reads.still_no_fault,
       omega (arith, reads.next_row, so_far.1),
-      omega (arith, reads.next_row, reads.due, ap (λ (f : StripForm). f.rows) so_far.5.same_form),
+      omega (arith, reads.next_row, reads.upcoming, ap (λ (f : StripForm). f.rows) so_far.5.same_form),
       rows,
       omega (arith, length-append so_far.3 (new.reference ∷ []), so_far.4),
       c.strips_are_read_row_by_row.ensures.goes_on c.args.form c.args.bytes.now so_far.3 old new so_far.5 reads,
@@ -34,7 +34,7 @@ pub returns-in-Err : goal.returns-in-Err
 returns-in-Err c =
     let so_far = c.loop-count.invariant in
     elim c.in-Err.ensures [
-      | inl again ↦ absurd (cc (so_far.0, again.told))
+      | inl again ↦ absurd (cc (so_far.0, again.final_end))
       | inr meets ↦ (
         so_far.3,
         so_far.4,

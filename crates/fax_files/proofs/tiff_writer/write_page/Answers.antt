@@ -24,8 +24,8 @@ returns-clause-bytes c =
     ++ c.deref.result.now)) c.new-bytes.ensures.items in
     whole_page c.args.start c.args.total c.args.number c.args.form.now c.args.strips.now c.requires.header
     c.requires.limits
-    c.requires.exchanged c.requires.strips c.in-Some.end c.in-Some.ensures.found c.laid_out-at.result
-    c.laid_out-at.ensures
+    c.requires.exchanged c.requires.strips c.in-Some.end c.in-Some.ensures.found c.page_layout-at.result
+    c.page_layout-at.ensures
     c.deref.result.now c.append.new.bytes.items tail bytes
 
 pub returns-clause-within : goal.returns-clause-within
@@ -35,8 +35,8 @@ returns-clause-within c =
     ++ c.deref.result.now)) c.new-bytes.ensures.items in
     let whole = whole_page c.args.start c.args.total c.args.number c.args.form.now c.args.strips.now c.requires.header
     c.requires.limits
-    c.requires.exchanged c.requires.strips c.in-Some.end c.in-Some.ensures.found c.laid_out-at.result
-    c.laid_out-at.ensures
+    c.requires.exchanged c.requires.strips c.in-Some.end c.in-Some.ensures.found c.page_layout-at.result
+    c.page_layout-at.ensures
     c.deref.result.now c.append.new.bytes.items tail bytes in
     let size = page_size c.args.start c.args.total c.args.number c.args.form.now c.args.strips.now c.requires.header
     c.requires.limits

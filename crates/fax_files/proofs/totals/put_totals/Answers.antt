@@ -14,7 +14,7 @@ loop-preserved c =
     let some : 2 ≤ next = omega (arith, page.0.0) in
     let inside : next ≤ length old = omega (arith, page.0.1) in
     let after : next - 2 + 2 ≡ next = omega (arith, some) in
-    let is = rw c.next_link-link.ensures at c.set_two.ensures in
+    let is = rw c.next_link-link.ensures at c.set_u16.ensures in
     rw (c.next_link-link.ensures, is, after) (
       omega (arith, total_len old T next some inside, page.0.1),
       (last, still_pages old T next (T - (c.loop.counter + 1)) next last some (omega arith) inside page.1),

@@ -16,5 +16,5 @@ loop-strip-preserved c =
     let more = lengths_more c.args.strips.now c.loop-strip.strip-index c.strip-item.result c.loop-strip-test.true
     c.strip-item.is in
     let count : c.len.result ≡ length c.strip-item.result.items = omega (arith, c.len.ensures) in
-    let put = rw count at c.in_ok-put_four.ensures in
+    let put = rw count at c.in_ok-push_u32.ensures in
     rw more (put ∙ put_after _ _ _ _ c.loop-strip.invariant)

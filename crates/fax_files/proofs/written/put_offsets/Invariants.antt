@@ -6,6 +6,6 @@ use Rattle.fax_files.proofs.written.put_offsets.Given as goal
 
 abbrev pub invariant-loop-strip : goal.invariant-loop-strip
 invariant-loop-strip l = record {
-  place : l.place ≡ l.start + length (joined_strips (contents (take l.strip-index l.strips)));
+  offset : l.offset ≡ l.start + length (joined_strips (contents (take l.strip-index l.strips)));
   put : l.out.items ≡ l.initial.out.items ++ longs (offsets_from l.start (contents (take l.strip-index l.strips)));
 }

@@ -6,4 +6,4 @@ abbrev pub invariant-loop-zeros : goal.invariant-loop-zeros
 invariant-loop-zeros l = IsPassedBy l.fn.source l.source
 
 abbrev pub decreases-loop-zeros : goal.decreases-loop-zeros
-decreases-loop-zeros l = length l.source.left
+decreases-loop-zeros l = length l.source.remaining

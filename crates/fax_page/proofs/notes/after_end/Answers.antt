@@ -8,9 +8,13 @@ returns-in-Mh c = eols_end _ _ _ c.in-Mh.is c.after_return_to_control.ensures
 
 pub returns-then-take : goal.returns-then-take
 returns-then-take c =
-    block_end _ _ _ c.in-Mmr.is (ap (λ (s : Source). s.left) (sym c.again-ahead.ensures) ∙ c.if-take.ensures.taken)
+    block_end _ _ _ c.in-Mmr.is (ap (λ (s : Source). s.remaining) (sym c.fork-ahead.ensures) ∙ c.if-take.ensures.taken)
 
 pub returns-else-take : goal.returns-else-take
 returns-else-take c = λ rest mark.
     no_block_end _ _ rest c.in-Mmr.is
-    (λ begins. c.if-take.ensures.taken.1 (begins.0, ap (λ (s : Source). s.left) c.again-ahead.ensures ∙ begins.1)) mark
+    (λ begins. c.if-take.ensures.taken.1 (
+      begins.0,
+      ap (λ (s : Source). s.remaining) c.fork-ahead.ensures
+          ∙ begins.1,
+    )) mark

@@ -4,7 +4,8 @@ use Rattle.fax_page.proofs.notes.notes_after.Goals.{in-Some, in-None}
 
 pub returns-in-Mh : goal.returns-in-Mh
 returns-in-Mh c =
-    let found : IsEndFound c.args.coding c.args.source.now.left c.match-after_end.ended.0 c.match-after_end.ended.1 =
+    let found : IsEndFound c.args.coding c.args.source.now.remaining c.match-after_end.ended.0 c.match-after_end.ended.1
+    =
     elim c.match-after_end.branch [
       | in-Some w ↦ end_found _ _ _ _ _ _ w.in-Some.ensures w.zeros.ensures w.is_some.ensures w.ended-is
       | in-None w ↦ no_end_found _ _ _ _ _ w.in-None.ensures w.zeros-in-None.ensures w.is_some-in-None.ensures
@@ -14,7 +15,8 @@ returns-in-Mh c =
 
 pub returns-in-Mmr : goal.returns-in-Mmr
 returns-in-Mmr c =
-    let found : IsEndFound c.args.coding c.args.source.now.left c.match-after_end.ended.0 c.match-after_end.ended.1 =
+    let found : IsEndFound c.args.coding c.args.source.now.remaining c.match-after_end.ended.0 c.match-after_end.ended.1
+    =
     elim c.match-after_end.branch [
       | in-Some w ↦ end_found _ _ _ _ _ _ w.in-Some.ensures w.zeros.ensures w.is_some.ensures w.ended-is
       | in-None w ↦ no_end_found _ _ _ _ _ w.in-None.ensures w.zeros-in-None.ensures w.is_some-in-None.ensures

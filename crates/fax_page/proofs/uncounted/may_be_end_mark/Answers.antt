@@ -19,16 +19,17 @@ returns-in-Mh c =
 
 pub returns-in-Mmr-clause-may : goal.returns-in-Mmr-clause-may
 returns-in-Mmr-clause-may c = λ is.
-    let same = ap (λ (s : Source). s.left) (sym c.again.ensures) in
-    let taken = subst (λ t. IsTaken (code_bits c.min-bits.result (front c.min-bits.result)) c.again.result.left t
-    c.take.new.self.left) is c.take.ensures.taken in
-    block_found c.args.coding c.args.source.now.left _ c.take.new.self.left c.min-bits.result c.in-Mmr.is same
+    let same = ap (λ (s : Source). s.remaining) (sym c.fork.ensures) in
+    let taken = subst (λ t. IsTaken (code_bits c.min-bits.result (front c.min-bits.result)) c.fork.result.remaining t
+    c.take.new.self.remaining) is c.take.ensures.taken in
+    block_found c.args.coding c.args.source.now.remaining _ c.take.new.self.remaining c.min-bits.result c.in-Mmr.is same
     (omega arith) taken
 
 pub returns-in-Mmr-clause-never : goal.returns-in-Mmr-clause-never
 returns-in-Mmr-clause-never c = λ is may.
-    let same = ap (λ (s : Source). s.left) (sym c.again.ensures) in
-    let taken = subst (λ t. IsTaken (code_bits c.min-bits.result (front c.min-bits.result)) c.again.result.left t
-    c.take.new.self.left) is c.take.ensures.taken in
-    block_missing c.args.coding c.args.source.now.left _ c.take.new.self.left c.min-bits.result c.in-Mmr.is same
+    let same = ap (λ (s : Source). s.remaining) (sym c.fork.ensures) in
+    let taken = subst (λ t. IsTaken (code_bits c.min-bits.result (front c.min-bits.result)) c.fork.result.remaining t
+    c.take.new.self.remaining) is c.take.ensures.taken in
+    block_missing c.args.coding c.args.source.now.remaining _ c.take.new.self.remaining c.min-bits.result c.in-Mmr.is
+    same
     (omega arith) taken may

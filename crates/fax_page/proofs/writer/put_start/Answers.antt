@@ -1,7 +1,7 @@
 use Rattle.std.proofs.Common.{true, false, [], ◌∷◌, ◌++◌, refl, arith}
 use Rattle.std.proofs.lemmas.Result.{on_ok_weaker}
 use Rattle.fax_bits.specs.Bits.{code_bits}
-use Rattle.fax_page.specs.Strip.{end_of_line}
+use Rattle.fax_page.specs.Strip.{eol_bits}
 use Rattle.fax_page.proofs.FillLemmas.{fits_more, put_after_fill}
 use Rattle.fax_page.proofs.writer.put_start.Goals as goal
 
@@ -20,7 +20,7 @@ returns-in-Mh-default-clause-ok c =
     let sink = c.args.sink.now in
     rw (c.in-Mh-default.is-0)
     (on_ok_weaker c.put.result
-    (put_after_fill sink c.put.new.self c.args.form.aligned c.len.result c.fill_zeros-fill.result 12 1 (end_of_line)
+    (put_after_fill sink c.put.new.self c.args.form.aligned c.len.result c.fill_zeros-fill.result 12 1 (eol_bits)
     c.len.ensures
     c.fill_zeros-fill.ensures.exact (omega arith) refl)
     c.put.ensures.ok)
@@ -33,7 +33,7 @@ returns-in-Mr-OneDimensional-clause-ok c =
     (on_ok_weaker c.put-in-Mr-OneDimensional.result
     (put_after_fill sink c.put-in-Mr-OneDimensional.new.self c.args.form.aligned c.len.result c.fill_zeros-fill.result
     13 3
-    (end_of_line ++ true ∷ []) c.len.ensures
+    (eol_bits ++ true ∷ []) c.len.ensures
     c.fill_zeros-fill.ensures.exact (omega arith) refl)
     c.put-in-Mr-OneDimensional.ensures.ok)
 
@@ -45,6 +45,6 @@ returns-in-Mr-TwoDimensional-clause-ok c =
     (on_ok_weaker c.put-in-Mr-TwoDimensional.result
     (put_after_fill sink c.put-in-Mr-TwoDimensional.new.self c.args.form.aligned c.len.result c.fill_zeros-fill.result
     13 2
-    (end_of_line ++ false ∷ []) c.len.ensures
+    (eol_bits ++ false ∷ []) c.len.ensures
     c.fill_zeros-fill.ensures.exact (omega arith) refl)
     c.put-in-Mr-TwoDimensional.ensures.ok)

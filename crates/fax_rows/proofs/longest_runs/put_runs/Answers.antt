@@ -7,23 +7,23 @@ use Rattle.fax_rows.proofs.longest_runs.put_runs.Goals as goal
 pub loop-n-init : goal.loop-n-init
 loop-n-init c = grind (arith, put_none)
 
-pub turn-end-requires-clause-room : goal.turn-end-requires-clause-room
-turn-end-requires-clause-room c = omega (arith, more_room c.loop-n.invariant.put)
+pub toggle_change-end-requires-clause-room : goal.toggle_change-end-requires-clause-room
+toggle_change-end-requires-clause-room c = omega (arith, more_room c.loop-n.invariant.put)
 
 pub loop-n-preserved : goal.loop-n-preserved
 loop-n-preserved c =
-    let runs = put_next_run c.args.runs.now c.loop-n.n-index c.loop-n.total _ (take c.loop-n.end c.loop-n.places)
-    (take c.turn-end.result c.turn-end.new.places) c.loop-n-test.true refl c.loop-n.invariant.runs
-    c.turn-end.ensures.turned in
+    let runs = put_next_run c.args.runs.now c.loop-n.n-index c.loop-n.total _ (take c.loop-n.end c.loop-n.changes)
+    (take c.toggle_change-end.result c.toggle_change-end.new.changes) c.loop-n-test.true refl c.loop-n.invariant.runs
+    c.toggle_change-end.ensures.toggled in
     record {
       runs = runs;
-      put = put_on c.loop-n.invariant.put c.turn-end.ensures
+      put = put_on c.loop-n.invariant.put c.toggle_change-end.ensures
           (omega (arith, runs.sum_is, part_within c.args.runs.now (c.loop-n.n-index + 1), c.requires.whole));
     }
 
 pub returns-clause-pels : goal.returns-clause-pels
 returns-clause-pels c =
-    put_all_runs (subst (λ runs. ArePutRuns runs c.loop-n.total (take c.loop-n.end c.loop-n.places)) whole
+    put_all_runs (subst (λ runs. ArePutRuns runs c.loop-n.total (take c.loop-n.end c.loop-n.changes)) whole
     c.loop-n.invariant.runs)
     c.requires.whole
   where

@@ -7,11 +7,11 @@ use Rattle.fax_rows.proofs.one_dimensional.read_runs.Given as goal
 abbrev pub invariant-loop-runs : goal.invariant-loop-runs
 invariant-loop-runs l = record {
   colour : Colour;
-  read : HasRead l.width l.fn.source.left (IsTrue l.runs.is_chosen) l.runs.total colour l.places l.runs.end
-      l.ahead.left;
+  read : HasRead l.width l.fn.source.remaining (IsTrue l.runs.is_canonical) l.runs.total colour l.changes l.runs.end
+      l.ahead.remaining;
   white : l.runs.total < l.width → colour ≡ White;
-  same_end : l.ahead.place + length l.ahead.left ≡ l.fn.source.place + length l.fn.source.left;
+  same_end : l.ahead.place + length l.ahead.remaining ≡ l.fn.source.place + length l.fn.source.remaining;
 }
 
 abbrev pub decreases-loop-runs : goal.decreases-loop-runs
-decreases-loop-runs l = length l.ahead.left
+decreases-loop-runs l = length l.ahead.remaining

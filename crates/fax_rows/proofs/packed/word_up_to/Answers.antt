@@ -13,25 +13,25 @@ loop-after-init c = record {
     | in-Black w ↦ rw w.word-is (word_begun c.args.row (64 * c.args.k) (2 ^ 64 - 1) c.args.passed c.requires.so_far
         (λ i. black_word i ∙ ap is_black (sym w.in-Black.is ∙ c.colour_after.ensures)))
   ];
-  left = omega arith;
+  left_hand = omega arith;
 }
 
 pub bounds-row-after : goal.bounds-row-after
 bounds-row-after c = omega (
   arith,
   c.loop-after.invariant.word.within,
-  c.args.row.placed.room,
+  c.args.row.elements.room,
   end_within
-      c.args.row.placed,
+      c.args.row.elements,
 )
 
 pub bounds-row-after-in-loop-after : goal.bounds-row-after-in-loop-after
 bounds-row-after-in-loop-after c = omega (
   arith,
   c.loop-after.invariant.word.within,
-  c.args.row.placed.room,
+  c.args.row.elements.room,
   end_within
-      c.args.row.placed,
+      c.args.row.elements,
 )
 
 pub loop-after-preserved : goal.loop-after-preserved
@@ -40,7 +40,7 @@ loop-after-preserved c =
     record {
       word =
           word_turned c.args.row (64 * c.args.k) c.loop-after.word c.loop-after.after
-          (get_or c.args.row.places.now c.loop-after.after 0 % 64)
+          (get_or c.args.row.changes.now c.loop-after.after 0 % 64)
           c.loop-after.invariant.word (omega arith) (omega arith) (λ ahead. omega arith);
-      left = omega (arith, ap (λ m. get_or c.args.row.places.now m 0) same);
+      left_hand = omega (arith, ap (λ m. get_or c.args.row.changes.now m 0) same);
     }

@@ -5,7 +5,7 @@ use Rattle.fax_rows.proofs.packed.word_up_to.Given as goal
 abbrev pub invariant-loop-after : goal.invariant-loop-after
 invariant-loop-after l = record {
   word : IsWordTo l.row (64 * l.k) l.word l.after;
-  left : get_or l.row.places.now (l.after - 1) 0 ≤ l.to;
+  left_hand : get_or l.row.changes.now (l.after - 1) 0 ≤ l.to;
 }
 
 abbrev pub decreases-loop-after : goal.decreases-loop-after

@@ -1,14 +1,15 @@
 use Rattle.std.proofs.Common.{◌+◌, ◌-◌}
-use Rattle.fax_rows.specs.code.ChangesAhead.{IsWrittenTo}
-use Rattle.fax_rows.specs.code.PlacedRow.{placed_pels}
+use Rattle.fax_rows.specs.code.CodingElements.{IsEncoderState}
+use Rattle.fax_rows.specs.code.ChangingElements.{element_pels}
 use Rattle.fax_rows.proofs.ChoiceLemmas.{passed}
 use Rattle.fax_rows.proofs.PlacedLemmas.{IsPutToPlace}
 use Rattle.fax_rows.proofs.put_rows.put_steps.Given as goal
 
 abbrev pub invariant-loop-at : goal.invariant-loop-at
 invariant-loop-at l = record {
-  placed : IsPutToPlace (placed_pels l.rows.reference) (placed_pels l.rows.row) l.initial.sink l.at.a0 l.pending l.sink;
-  places : IsWrittenTo l.rows l.at;
+  elements : IsPutToPlace (element_pels l.rows.reference) (element_pels l.rows.row) l.initial.sink l.at.a0 l.pending
+      l.sink;
+  changes : IsEncoderState l.rows l.at;
 }
 
 abbrev pub decreases-loop-at : goal.decreases-loop-at

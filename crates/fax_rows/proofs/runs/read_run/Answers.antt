@@ -14,9 +14,9 @@ pub loop-more-init : goal.loop-more-init
 loop-more-init c = record {
   same =
       let start : c.args.from ≡ c.args.from + 0 = omega arith in
-      ap (λ k. read_run c.args.colour c.args.width k c.args.source.now.left) start;
-  chosen = λ is. none_chosen c.chosen_codes_are_written.ensures c.args.colour c.args.source.now.left;
-  longest = λ is. none_longest c.chosen_codes_are_written.ensures c.args.colour c.args.source.now.left;
+      ap (λ k. read_run c.args.colour c.args.width k c.args.source.now.remaining) start;
+  chosen = λ is. none_chosen c.chosen_codes_are_written.ensures c.args.colour c.args.source.now.remaining;
+  longest = λ is. none_longest c.chosen_codes_are_written.ensures c.args.colour c.args.source.now.remaining;
   within = omega arith;
   no_longer = omega arith;
   same_end = refl;
@@ -34,7 +34,7 @@ returns-in-Terminating-clause-read c =
 pub returns-in-Terminating-clause-chosen : goal.returns-in-Terminating-clause-chosen
 returns-in-Terminating-clause-chosen c is =
     let read = rw c.in-Terminating.is at c.in_ok-more.ensures.read in
-    let taken = read_is_taken c.loop-more.source.left (run_table c.args.colour) _ _ read in
+    let taken = read_is_taken c.loop-more.source.remaining (run_table c.args.colour) _ _ read in
     rw c.from.ensures (c.loop-more.invariant.chosen is _ _ taken)
 
 pub returns-then-from-pels-clause-read : goal.returns-then-from-pels-clause-read
@@ -69,7 +69,7 @@ returns-in_err-more-clause-read c =
 pub loop-more-preserved : goal.loop-more-preserved
 loop-more-preserved c =
     let is = rw c.in-MakeUp.is at c.in_ok-more.ensures.read in
-    let taken = read_is_taken c.loop-more.source.left (run_table c.args.colour) _ _ is in
+    let taken = read_is_taken c.loop-more.source.remaining (run_table c.args.colour) _ _ is in
     let so_far = c.loop-more.invariant in
     let on = goes_on c.args.colour c.args.width (c.args.from + c.loop-more.pels)
     (c.args.from + (c.loop-more.pels + c.in-MakeUp.more)) c.in-MakeUp.more _ _ is (omega arith)

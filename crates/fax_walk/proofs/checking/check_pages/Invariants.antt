@@ -6,10 +6,10 @@ use Rattle.fax_walk.proofs.checking.check_pages.Given as goal
 
 abbrev pub invariant-loop-directory : goal.invariant-loop-directory
 invariant-loop-directory l = record {
-  before : IsChainBefore l.fn.tiff.file l.chain.given l.chain;
-  read : ArePagesChecked l.fn.tiff.file l.chain.given l.report.rows l.report.notes.items;
+  before : IsChainBefore l.fn.tiff.file l.chain.yielded l.chain;
+  read : ArePagesChecked l.fn.tiff.file l.chain.yielded l.report.rows l.report.notes.items;
   none : l.report.fault ≡ None;
 }
 
 abbrev pub decreases-loop-directory : goal.decreases-loop-directory
-decreases-loop-directory l = 2 ^ 32 - l.chain.given
+decreases-loop-directory l = 2 ^ 32 - l.chain.yielded

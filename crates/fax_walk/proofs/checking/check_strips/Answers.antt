@@ -7,7 +7,7 @@ use Rattle.fax_walk.proofs.checking.check_strips.Goals as goal
 pub loop-s-init : goal.loop-s-init
 loop-s-init c = record {
   on = record {
-    by_place = c.bits_stand_by_place.ensures;
+    by_place = c.bits_stand_by_index.ensures;
     lines_read = c.lines_are_read_in_one_way.ensures;
     limits = c.requires.limits;
     form_is = c.requires.form;

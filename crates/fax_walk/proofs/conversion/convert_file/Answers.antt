@@ -1,6 +1,6 @@
 use Rattle.fax_walk.specs.code.Sources.{IsFile}
 use Rattle.fax_walk.proofs.ConversionLemmas.{converted, if_err, if_ok, refused}
-use Rattle.fax_walk.proofs.FileLemmas.{all_written, its_file, none_put, one_put, part, row_due, source, told}
+use Rattle.fax_walk.proofs.FileLemmas.{all_written, its_file, none_put, one_put, part, upcoming_row, source, final_end}
 use Rattle.fax_walk.proofs.conversion.convert_file.Goals as goal
 
 pub loop-walk-init : goal.loop-walk-init
@@ -15,11 +15,11 @@ loop-walk-init c =
           c.in_ok-output.ensures);
     }
 
-pub put_last_row-requires-clause-due : goal.put_last_row-requires-clause-due
-put_last_row-requires-clause-due c =
+pub put_last_row-requires-clause-upcoming : goal.put_last_row-requires-clause-upcoming
+put_last_row-requires-clause-upcoming c =
     let so_far = c.loop-walk.invariant.so_far in
     let next = rw (c.in-Ok-Some.is, c.in-Ok-Some.field-0-is) at c.next_row.follows.holds-at-none in
-    (next.0, part _ _ _ _ _ so_far _ next.0 next.1, row_due _ _ _ _ _ so_far _ next.0 next.1)
+    (next.0, part _ _ _ _ _ so_far _ next.0 next.1, upcoming_row _ _ _ _ _ so_far _ next.0 next.1)
 
 pub loop-walk-preserved : goal.loop-walk-preserved
 loop-walk-preserved c =
@@ -28,7 +28,7 @@ loop-walk-preserved c =
     record {
       its = c.loop-walk.invariant.its;
       so_far = one_put _ _ _ _ _ so_far _ next.0 next.1 _
-          (c.in_ok-put_last_row-in-Ok-Some.ensures next.0 _ (row_due _ _ _ _ _ so_far _ next.0 next.1));
+          (c.in_ok-put_last_row-in-Ok-Some.ensures next.0 _ (upcoming_row _ _ _ _ _ so_far _ next.0 next.1));
     }
 
 pub returns-in-Ok-None-clause-ok : goal.returns-in-Ok-None-clause-ok
@@ -49,4 +49,4 @@ returns-in-Ok-None-clause-err c =
 pub returns-in-Err-clause-err : goal.returns-in-Err-clause-err
 returns-in-Err-clause-err c =
     let next = rw c.in-Err.is at c.next_row.follows.holds-at-none in
-    rw c.source_fault.ensures (told _ _ _ _ _ c.loop-walk.invariant.so_far _ c.in-Err.fault c.requires next)
+    rw c.source_fault.ensures (final_end _ _ _ _ _ c.loop-walk.invariant.so_far _ c.in-Err.fault c.requires next)

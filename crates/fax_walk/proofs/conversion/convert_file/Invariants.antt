@@ -9,4 +9,4 @@ invariant-loop-walk l = record {
 }
 
 abbrev pub decreases-loop-walk : goal.decreases-loop-walk
-decreases-loop-walk l = 2 ^ 53 - l.walk.given
+decreases-loop-walk l = 2 ^ 53 - l.walk.yielded

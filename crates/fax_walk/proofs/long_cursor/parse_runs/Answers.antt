@@ -25,17 +25,17 @@ returns-in_err-push_run-clause-err c =
     let p = err_from_is_err_and c.from_residual.result c.from_residual.ensures.1 in
     let cut = rw c.in-Some.is at c.split_once.ensures.cases in
     rw (p.1, p.2)
-    (λ told runs short some is.
+    (λ final_end runs short some is.
     let rest = c.loop-run.invariant.cut.others (record { runs = runs; short = short; some = some; text_is = is }) in
     let run = (run_before c.loop-run.rest.now c.in-Some.run' c.in-Some.after cut rest).0 in
-    c.in_err-push_run.ensures.err told run.run run.short run.text_is)
+    c.in_err-push_run.ensures.err final_end run.run run.short run.text_is)
 
 pub returns-in_err-push_run-2-clause-err : goal.returns-in_err-push_run-2-clause-err
 returns-in_err-push_run-2-clause-err c =
     let p = err_from_is_err_and c.from_residual-in_err-push_run-2.result c.from_residual-in_err-push_run-2.ensures.1 in
     let cut = rw c.in_default.is at c.split_once.ensures.cases in
     rw (p.1, p.2)
-    (λ told runs short some is.
+    (λ final_end runs short some is.
     let rest = c.loop-run.invariant.cut.others (record { runs = runs; short = short; some = some; text_is = is }) in
     let run = run_left c.loop-run.rest.now cut rest in
-    c.in_err-push_run-2.ensures.err told run.run run.short run.text_is)
+    c.in_err-push_run-2.ensures.err final_end run.run run.short run.text_is)

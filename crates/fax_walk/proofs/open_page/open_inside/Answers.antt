@@ -1,24 +1,29 @@
 use Rattle.std.proofs.Common.{sym, arith, rules}
 use Prim.{search}
-use Rattle.fax_walk.specs.code.Opening.{PageDue}
+use Rattle.fax_walk.specs.code.Opening.{UpcomingPage}
 use Rattle.fax_walk.proofs.OpenPageLemmas.{no_strip}
 use Rattle.fax_walk.proofs.open_page.open_inside.Goals as goal
 
 pub returns-in-Err-clause-refused : goal.returns-in-Err-clause-refused
 returns-in-Err-clause-refused c =
-    let same_page = rw (sym c.due.view_is, sym c.place.view_is) at c.requires in
+    let same_page = rw (sym c.upcoming.view_is, sym c.place.view_is) at c.requires in
     let outside = c.in-Err.ensures.outside in
-    let d = c.due.inside in
-    let due : PageDue = record { page = d.page; chain = d.chain; directory = d.strips.directory; form = d.form } in
-    rw (← c.due.view_is, ← c.place.view_is, c.of_file.ensures, c.in-Err.ensures.fault)
-    (no_strip due _ c.due.invariant.its same_page (omega (arith, c.if-row-form.false))
+    let d = c.upcoming.inside in
+    let upcoming : UpcomingPage = record {
+      page = d.page;
+      chain = d.chain;
+      directory = d.strips.directory;
+      form = d.form;
+    } in
+    rw (← c.upcoming.view_is, ← c.place.view_is, c.of_file.ensures, c.in-Err.ensures.fault)
+    (no_strip upcoming _ c.upcoming.invariant.its same_page (omega (arith, c.if-row-form.false))
     (omega (arith, c.if-row-form-eq0.false)) outside)
 
 pub invariant_of-result : goal.invariant_of-result
 invariant_of-result c = record {
-  its = c.due.invariant.its;
-  limits = c.due.invariant.limits;
-  counted = c.due.invariant.counted;
+  its = c.upcoming.invariant.its;
+  limits = c.upcoming.invariant.limits;
+  counted = c.upcoming.invariant.counted;
   within = search rules;
   strip_is = search rules;
   room = c.in_ok-exchanged.ensures;

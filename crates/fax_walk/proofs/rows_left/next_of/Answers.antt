@@ -5,7 +5,7 @@ pub returns-in-Page : goal.returns-in-Page
 returns-in-Page c =
     rw c.in-Page.is
     (page_next c.in-Page.its c.next_part-part.new.self c.next_part-part.result c.next_part-part.ensures
-    c.rows_are_left.ensures)
+    c.lemma_rows_left.ensures)
 
 pub returns-in-Some : goal.returns-in-Some
 returns-in-Some c =

@@ -1,6 +1,6 @@
 use Rattle.std.proofs.Common.{◌/◌, ◌^◌, ◌-◌, ◌≤◌, arith, refl, ap, sym, ◌∙◌}
 use Rattle.fax_bits.specs.Codes.{bits_of}
-use Rattle.fax_bits.specs.Bits.{code_bits, BeginsWith}
+use Rattle.fax_bits.specs.Bits.{code_bits, StartsWith}
 use Rattle.fax_bits.proofs.FindLemmas.{code_ahead, ahead_is_short, ahead_is_first}
 use Rattle.fax_bits.proofs.TableLemmas.{listed, each_below_more, each-from_below}
 use Rattle.fax_bits.proofs.codes.CodeTable.find.Goals.{else-len-n-via-then-len-n+else-window-n}
@@ -25,7 +25,7 @@ loop-i-preserved g c =
     let table = g.Self.CodeTable.table in
     let entry = c.entry-entry.result in
     let found = c.entry-entry.ensures.found in
-    each_below_more (λ other. BeginsWith (code_bits c.args.n c.args.window) (bits_of other) → ⊥) table c.loop-i.i entry
+    each_below_more (λ other. StartsWith (code_bits c.args.n c.args.window) (bits_of other) → ⊥) table c.loop-i.i entry
     c.loop-i.invariant found
     (λ ahead.
     let within : entry.len ≤ c.args.n = ahead_is_short c.args.n c.args.window entry.len entry.code ahead in
@@ -40,6 +40,6 @@ loop-i-preserved g c =
 
 pub returns : goal.returns
 returns g c =
-    each-from_below (λ other. BeginsWith (code_bits c.args.n c.args.window) (bits_of other) → ⊥) g.Self.CodeTable.table
+    each-from_below (λ other. StartsWith (code_bits c.args.n c.args.window) (bits_of other) → ⊥) g.Self.CodeTable.table
     c.loop-i.i
     (omega (arith, g.met.Self.CodeTable.counted, c.loop-i-test.false)) c.loop-i.invariant

@@ -1,7 +1,7 @@
 use Rattle.std.proofs.Common.{◌++◌, take, replicate, false, inl, inr, refl, ◌∙◌, ap, arith}
 use Rattle.std.proofs.lemmas.Grind.{common_steps}
 use Rattle.fax_bits.specs.Bits.{code_bits, bits_number}
-use Rattle.fax_bits.proofs.AheadLemmas.{enough, loaded_left, loaded-left, all_loaded, end_kept}
+use Rattle.fax_bits.proofs.AheadLemmas.{enough, loaded_left, loaded-remaining, all_loaded, end_kept}
 use Rattle.fax_bits.proofs.TakeLemmas.{spelled, as_many, spells_it}
 use Rattle.fax_bits.proofs.source.BitSource.take.Goals as goal
 use Rattle.fax_bits.proofs.source.BitSource.take.Goals.{then-ahead-len-via-then-ahead-len}
@@ -17,7 +17,7 @@ returns-then-ahead-len-clause-taken c =
     let bytes = c.self.inside.bytes.now in
     let more = c.filled-ahead.ensures in
     let window = c.filled-ahead.result in
-    let left = loaded_left order bytes c.self.inside.window window c.args.self.now c.self.invariant c.self.view_is
+    let remaining = loaded_left order bytes c.self.inside.window window c.args.self.now c.self.invariant c.self.view_is
     more.ahead more.place more.within in
     let all = all_loaded order bytes c.self.inside.window window c.args.self.now c.self.invariant c.self.view_is
     more.ahead more.place more.within in (
@@ -32,13 +32,13 @@ returns-then-ahead-len-clause-taken c =
             | then-ahead-len-via-else-ahead-len+then-number-bits w ↦
                 w.if-number-bits.true (w.number.ensures.number order bytes
                 (enough c.args.len bytes window c.requires.short more.many)
-                ∙ ap (λ b. bits_number (take c.args.len (b ++ replicate c.args.len false))) left
+                ∙ ap (λ b. bits_number (take c.args.len (b ++ replicate c.args.len false))) remaining
                 ∙ spells_it _ _ _ c.requires.fits begins)
           ],
     )
 
 pub returns-clause-taken : goal.returns-clause-taken
-returns-clause-taken c = grind (arith, common_steps, loaded-left, spelled)
+returns-clause-taken c = grind (arith, common_steps, loaded-remaining, spelled)
 
 pub returns-clause-same_end : goal.returns-clause-same_end
 returns-clause-same_end c =

@@ -3,18 +3,18 @@ use Rattle.fax_files.specs.Directory.{Entry}
 use Rattle.fax_files.proofs.EntryLemmas.{holds_integers, value_inside, short_len, other_len}
 use Rattle.fax_files.proofs.numbers.File.value_at.Goals as goal
 
-pub overflow_add-place : goal.overflow_add-place
-overflow_add-place c =
+pub overflow_add-offset : goal.overflow_add-offset
+overflow_add-offset c =
     omega (
       arith,
-      value_inside _ _ _ c.args.i c.values_place.result c.value_len.result c.values_place.ensures
+      value_inside _ _ _ c.args.i c.values_offset.result c.value_len.result c.values_offset.ensures
           c.value_len.ensures.value
           c.requires.there,
     )
 
 pub u16_at-requires : goal.u16_at-requires
 u16_at-requires c =
-    let inside = value_inside _ _ _ c.args.i c.values_place.result c.value_len.result c.values_place.ensures
+    let inside = value_inside _ _ _ c.args.i c.values_offset.result c.value_len.result c.values_offset.ensures
     c.value_len.ensures.value
     c.requires.there in
     omega (
@@ -26,7 +26,7 @@ u16_at-requires c =
 
 pub u32_at-requires : goal.u32_at-requires
 u32_at-requires c =
-    let inside = value_inside _ _ _ c.args.i c.values_place.result c.value_len.result c.values_place.ensures
+    let inside = value_inside _ _ _ c.args.i c.values_offset.result c.value_len.result c.values_offset.ensures
     c.value_len.ensures.value
     c.requires.there in
     let integer = (holds_integers _ _ _ _ c.requires.there).kind in

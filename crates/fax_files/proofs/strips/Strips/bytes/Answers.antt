@@ -20,16 +20,16 @@ value_at-len-requires-clause-there c =
 
 pub returns-then-not-is_inside-clause-outside : goal.returns-then-not-is_inside-clause-outside
 returns-then-not-is_inside-clause-outside c =
-    let place = strip_place c.self.inside.directory c.self.inside.count c.args.s _ _ c.self.invariant in
+    let strip_at = strip_place c.self.inside.directory c.self.inside.count c.args.s _ _ c.self.invariant in
     let offset = rw (c.file-file.ensures.endian, c.file-file.ensures.file) at c.value_at-offset.ensures in
     let len = rw (c.file-file.ensures.endian, c.file-file.ensures.file) at c.value_at-len.ensures in
     let outside = rw c.file-file.ensures.file at (sym c.is_inside.ensures ∙ c.if-not-is_inside.true) in
-    rw (← c.self.view_is) ((rw (← offset, ← len) at place) ∙ bytes_outside _ _ _ outside)
+    rw (← c.self.view_is) ((rw (← offset, ← len) at strip_at) ∙ bytes_outside _ _ _ outside)
 
 pub returns-clause-bytes : goal.returns-clause-bytes
 returns-clause-bytes c =
-    let place = strip_place c.self.inside.directory c.self.inside.count c.args.s _ _ c.self.invariant in
+    let strip_at = strip_place c.self.inside.directory c.self.inside.count c.args.s _ _ c.self.invariant in
     let offset = rw (c.file-file.ensures.endian, c.file-file.ensures.file) at c.value_at-offset.ensures in
     let len = rw (c.file-file.ensures.endian, c.file-file.ensures.file) at c.value_at-len.ensures in
     let inside = rw c.file-file.ensures.file at (sym c.is_inside.ensures ∙ c.if-not-is_inside.false) in
-    rw (← c.self.view_is, c.file-file.ensures.file) ((rw (← offset, ← len) at place) ∙ bytes_inside _ _ _ inside)
+    rw (← c.self.view_is, c.file-file.ensures.file) ((rw (← offset, ← len) at strip_at) ∙ bytes_inside _ _ _ inside)

@@ -20,8 +20,8 @@ value_at-len-requires-clause-there c =
 
 pub returns-clause-bytes : goal.returns-clause-bytes
 returns-clause-bytes c =
-    let place = inside_place c.self.inside.directory c.self.inside.count c.args.s _ _ c.self.invariant in
+    let strip_at = inside_place c.self.inside.directory c.self.inside.count c.args.s _ _ c.self.invariant in
     let offset = rw (c.file-file.ensures.endian, c.file-file.ensures.file) at c.value_at-offset.ensures in
     let len = rw (c.file-file.ensures.endian, c.file-file.ensures.file) at c.value_at-len.ensures in
     let read = up_to_end c.file-file.result.bytes.now _ _ _ _ c.min-begin.ensures c.min.ensures in
-    read ∙ rw (c.file-file.ensures.file, offset, len, ← c.self.view_is) (sym place)
+    read ∙ rw (c.file-file.ensures.file, offset, len, ← c.self.view_is) (sym strip_at)

@@ -79,7 +79,7 @@ pub set_link-requires : goal.set_link-requires
 set_link-requires c =
     let start : c.len-start.result ≡ length c.self.inside.bytes.items = omega (arith, c.len-start.ensures) in
     let end = rw start at c.in-Some.ensures.found in
-    let laid = rw start at c.laid_out-at.ensures in
+    let laid = rw start at c.page_layout-at.ensures in
     let put = OnOk-at_not_err c.append.result (sym c.is_err-2.ensures.value ∙ c.if-is_err-2.false) c.append.ensures.ok
     in
     let now_is = rw c.reserve.ensures.items at put in
@@ -94,7 +94,7 @@ pub invariant_of-self-2 : goal.invariant_of-self-2
 invariant_of-self-2 c =
     let start : c.len-start.result ≡ length c.self.inside.bytes.items = omega (arith, c.len-start.ensures) in
     let end = rw start at c.in-Some.ensures.found in
-    let laid = rw start at c.laid_out-at.ensures in
+    let laid = rw start at c.page_layout-at.ensures in
     let put = OnOk-at_not_err c.append.result (sym c.is_err-2.ensures.value ∙ c.if-is_err-2.false) c.append.ensures.ok
     in
     let now_is = rw c.reserve.ensures.items at put in
@@ -129,7 +129,7 @@ pub returns-clause-ok : goal.returns-clause-ok
 returns-clause-ok c =
     let start : c.len-start.result ≡ length c.self.inside.bytes.items = omega (arith, c.len-start.ensures) in
     let end = rw start at c.in-Some.ensures.found in
-    let laid = rw start at c.laid_out-at.ensures in
+    let laid = rw start at c.page_layout-at.ensures in
     let put = OnOk-at_not_err c.append.result (sym c.is_err-2.ensures.value ∙ c.if-is_err-2.false) c.append.ensures.ok
     in
     let now_is = rw c.reserve.ensures.items at put in

@@ -7,6 +7,6 @@ abbrev pub invariant-loop-i : goal.invariant-loop-i
 invariant-loop-i l = record {
   noting : IsNoting l.strip l.self-inside.rows;
   form_is : l.strip.form ≡ l.form;
-  read : AreRowsRead l.form (bits l.form.order l.fn.bytes) l.i l.self-inside.rows.reference l.strip.source.left
+  read : AreRowsRead l.form (bits l.form.order l.fn.bytes) l.i l.self-inside.rows.reference l.strip.source.remaining
       l.strip.not_t4_choice;
 }

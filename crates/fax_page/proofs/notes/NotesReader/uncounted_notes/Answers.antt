@@ -29,36 +29,36 @@ loop-i-init c =
         };
       };
       form_is = refl;
-      read = none_read _ _ _ _ white (ap (λ (s : Source). s.left) c.new.ensures);
+      read = none_read _ _ _ _ white (ap (λ (s : Source). s.remaining) c.new.ensures);
     }
 
 pub returns-in-Err-Strip-clause-ok : goal.returns-in-Err-Strip-clause-ok
 returns-in-Err-Strip-clause-ok c =
-    let due : c.loop-i.i < most_rows = c.loop-i-test.true in
+    let upcoming : c.loop-i.i < most_rows = c.loop-i-test.true in
     let stop = rw (c.loop-i.invariant.form_is, c.in-Err-Strip.field-0-is) at c.in-Err-Strip.ensures.err in
-    let found = rw (c.again-due.ensures, c.in-Err-Strip.fault-is) at c.found_in_rows.ensures in
-    uncounted_stopped _ _ _ _ _ _ _ _ _ due c.loop-i.invariant.read stop found
+    let found = rw (c.fork-upcoming.ensures, c.in-Err-Strip.fault-is) at c.found_in_rows.ensures in
+    uncounted_stopped _ _ _ _ _ _ _ _ _ upcoming c.loop-i.invariant.read stop found
 
 pub loop-i-preserved : goal.loop-i-preserved
 loop-i-preserved c =
-    let due : c.loop-i.i < most_rows = c.loop-i-test.true in
+    let upcoming : c.loop-i.i < most_rows = c.loop-i-test.true in
     let old = c.loop-i.strip in
     let rows = c.loop-i.self-inside.rows in
     let new = c.read_row.new.self in
-    let noted = subst (λ (f : StripForm). IsLineNoted f c.loop-i.i rows.reference old.source.left
-    c.read_row.new.rows.reference new.source.left
+    let noted = subst (λ (f : StripForm). IsLineNoted f c.loop-i.i rows.reference old.source.remaining
+    c.read_row.new.rows.reference new.source.remaining
     old.not_t4_choice new.not_t4_choice) c.loop-i.invariant.form_is c.in-Ok.ensures.ok in
     record {
       noting = c.in-Ok.ensures.still;
       form_is = c.in-Ok.ensures.same_form ∙ c.loop-i.invariant.form_is;
-      read = row_noted c.lines_are_read_in_one_way.ensures _ _ _ _ _ _ _ _ _ due c.loop-i.invariant.read noted;
+      read = row_noted c.lines_are_read_in_one_way.ensures _ _ _ _ _ _ _ _ _ upcoming c.loop-i.invariant.read noted;
     }
 
 pub returns-clause-ok : goal.returns-clause-ok
 returns-clause-ok c =
     let all : c.loop-i.i ≡ most_rows = omega arith in
     let strip = c.loop-i.strip in
-    let found = subst (λ n. AreFoundAfter c.args.form.coding strip.source.left n None strip.not_t4_choice
+    let found = subst (λ n. AreFoundAfter c.args.form.coding strip.source.remaining n None strip.not_t4_choice
     c.found_in_rows-2.result) (sym all)
     c.found_in_rows-2.ensures in
     uncounted_noted _ _ _ _ _ _ _ _ c.loop-i.invariant.read all found

@@ -9,6 +9,6 @@ invariant-loop-i l = record {
   noting : IsNoting l.strip l.self-inside.rows;
   form_is : l.strip.form ≡ uncounted l.form;
   read : AreRowsRead (uncounted l.form) (bits l.form.order l.fn.bytes) l.i l.self-inside.rows.reference
-      l.strip.source.left
+      l.strip.source.remaining
       l.strip.not_t4_choice;
 }

@@ -5,7 +5,7 @@ use Rattle.fax_page.proofs.reader.StripReader.advance.Goals as goal
 
 pub invariant_of-self : goal.invariant_of-self
 invariant_of-self c =
-    let count = c.bits_stand_by_place.ensures.count c.self.inside.form.order c.self.inside.bytes.now in
+    let count = c.bits_stand_by_index.ensures.count c.self.inside.form.order c.self.inside.bytes.now in
     record {
       limits = c.self.invariant.limits;
       width = search rules;
@@ -25,13 +25,13 @@ invariant_of-self c =
 
 pub returns-in-Ok : goal.returns-in-Ok
 returns-in-Ok c =
-    let count = c.bits_stand_by_place.ensures.count c.self.inside.form.order c.self.inside.bytes.now in
+    let count = c.bits_stand_by_index.ensures.count c.self.inside.form.order c.self.inside.bytes.now in
     let here = c.self.invariant.at_row c.in_default.is in
     let ok = c.in-Ok.ensures.ok in
     let same_end = c.in-Ok.ensures.same_end in
     rw (← c.self.view_is) (record {
       no_fault = search rules;
-      due = search rules;
+      upcoming = search rules;
       line = line_between c.self.inside.form _ _ _ _ _ _ _ _ count c.self.invariant.placed here ok same_end
           c.place-self-inside.ensures
           (c.lines_are_read_in_one_way.ensures _ _ _);
@@ -55,4 +55,4 @@ returns-in-Err c =
     here
     (rw again (c.line_fault-fault.ensures reader.rows (rw again at c.in-Err.ensures.err))) in
     rw (← c.self.view_is)
-    (inr (record { no_fault = search rules; due = search rules; cause = cause; told = search rules }))
+    (inr (record { no_fault = search rules; upcoming = search rules; cause = cause; told = search rules }))

@@ -8,25 +8,25 @@ use Rattle.fax_rows.proofs.longest_runs.LongestRuns.of_row.Goals as goal
 
 pub returns : goal.returns
 returns c =
-    let places = c.row.inside.places.items in
+    let changes = c.row.inside.changes.items in
     let end = c.row.inside.end in
     let width = c.row.inside.width in
-    let some : 0 < length places = omega (arith, c.row.invariant.room) in
+    let some : 0 < length changes = omega (arith, c.row.invariant.room) in
     rw c.deref.ensures.value
-    (ap runs_between (row_bounds places end some c.row.invariant.ascending.first)
+    (ap runs_between (row_bounds changes end some c.row.invariant.ascending.first)
     ∙ ap (gaps 0) (ends_are c.row.invariant)
-    ∙ gaps_are_runs c.args.row.now (take (end - 1) (drop 1 places)) width
+    ∙ gaps_are_runs c.args.row.now (take (end - 1) (drop 1 changes)) width
     (changes_are c.row.invariant c.row.view_is)
     (width_is c.row.invariant c.row.view_is))
 
 pub invariant_of-result : goal.invariant_of-result
 invariant_of-result c =
-    let places = c.row.inside.places.items in
+    let changes = c.row.inside.changes.items in
     let end = c.row.inside.end in
-    let some : 0 < length places = omega (arith, c.row.invariant.room) in
+    let some : 0 < length changes = omega (arith, c.row.invariant.room) in
     rw c.deref.ensures.value
-    (subst AreBounds (sym (row_bounds places end some c.row.invariant.ascending.first))
-    (are_bounds (take end (drop 1 places)) (ahead_of_row c.row.invariant)))
+    (subst AreBounds (sym (row_bounds changes end some c.row.invariant.ascending.first))
+    (are_bounds (take end (drop 1 changes)) (ahead_of_row c.row.invariant)))
 
 pub slice_bounds-result-end : goal.slice_bounds-result-end
 slice_bounds-result-end c =

@@ -9,7 +9,7 @@ offset_bounds-self-inside-count c =
       fits = omega (
         arith,
         ap length c.self.view_is,
-        length-runs_between c.self.inside.places.now,
+        length-runs_between c.self.inside.changes.now,
         c.requires,
         c.self.told,
       );
@@ -19,7 +19,7 @@ pub slice_bounds-self-count : goal.slice_bounds-self-count
 slice_bounds-self-count c = omega (
   arith,
   ap length c.self.view_is,
-  length-runs_between c.self.inside.places.now,
+  length-runs_between c.self.inside.changes.now,
   c.requires,
 )
 
@@ -27,7 +27,7 @@ pub slice_bounds-self-start : goal.slice_bounds-self-start
 slice_bounds-self-start c = omega (
   arith,
   ap length c.self.view_is,
-  length-runs_between c.self.inside.places.now,
+  length-runs_between c.self.inside.changes.now,
   c.requires,
 )
 

@@ -1,16 +1,16 @@
 use Rattle.std.proofs.Common.{sym, ◌∙◌}
 use Rattle.std.proofs.lemmas.Bool.{false≢true}
 use Rattle.fax_bits.specs.declared.Colour.TheVariants.{White}
-use Rattle.fax_rows.specs.Rows.{pels_of}
+use Rattle.fax_rows.specs.Rows.{pels_of_runs}
 use Rattle.fax_rows.proofs.GivenRunLemmas.{longest_are_back, longest_of}
-use Rattle.fax_rows.proofs.RowLaws.{length-pels_of}
+use Rattle.fax_rows.proofs.RowLaws.{length-pels_of_runs}
 use Rattle.fax_rows.proofs.pels.Row.has_runs.Goals as goal
 
 pub returns-clause-row : goal.returns-clause-row
 returns-clause-row c = λ told.
     let longest = c.are_longest.ensures.0 told in (
-      pels_of White c.args.runs.now,
-      length-pels_of White c.args.runs.now ∙ longest.whole,
+      pels_of_runs White c.args.runs.now,
+      length-pels_of_runs White c.args.runs.now ∙ longest.whole,
       longest_are_back c.args.runs.now c.args.width c.requires.some longest,
     )
 

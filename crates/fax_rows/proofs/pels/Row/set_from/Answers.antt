@@ -5,8 +5,8 @@ use Rattle.fax_bits.specs.declared.Colour.TheVariants.{White}
 use Rattle.fax_rows.proofs.PlacedRowLemmas.{all_white, width_is}
 use Rattle.fax_rows.proofs.pels.Row.set_from.Goals as goal
 
-pub copy_places-requires-clause-row : goal.copy_places-requires-clause-row
-copy_places-requires-clause-row c = grind (arith, width_is)
+pub copy_changes-requires-clause-row : goal.copy_changes-requires-clause-row
+copy_changes-requires-clause-row c = grind (arith, width_is)
 
 pub returns : goal.returns
 returns c = grind (arith, common_steps, width_is)

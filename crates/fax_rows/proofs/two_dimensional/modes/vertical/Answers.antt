@@ -9,7 +9,7 @@ returns-then-d-lt0-clause-read g c b taken =
     vertical_found _ _ c.ok_or.result c.requires.inside taken (search rules) (search rules) (grind (arith, left_of_b2))
 
 pub returns-then-d-eq0-clause-read : goal.returns-then-d-eq0-clause-read
-returns-then-d-eq0-clause-read g c b taken = asked_or_not (c.under_several.ensures.read b (search (rules, taken)))
+returns-then-d-eq0-clause-read g c b taken = asked_or_not (c.vertical_0_batch.ensures.read b (search (rules, taken)))
 
 pub returns-then-is_taken-clause-read : goal.returns-then-is_taken-clause-read
 returns-then-is_taken-clause-read g c b taken =

@@ -5,12 +5,12 @@ use Rattle.std.specs.Prelude.{IfSome}
 use Rattle.std.specs.Io.KnownBytes.{Consumes, IsAtEnd}
 use Rattle.std.proofs.KnownBytes.{Consumes-trans}
 use Rattle.fax_walk.proofs.ConversionLemmas.{if_err, if_ok}
-use Rattle.fax_tool.specs.code.Held.{HeldBytes}
+use Rattle.fax_tool.specs.code.InputBuffer.{HeldBytes}
 use Rattle.fax_tool.proofs.commands.convert.read_conversion.Goals as goal
 
 -- all bytes of a source that has ended were taken
-all_taken : (left now : Option (List ℕ)) (text : List ℕ) → Consumes left now text → IsAtEnd now
-    → IfSome left (λ bytes. text ≡ bytes)
+all_taken : (remaining now : Option (List ℕ)) (text : List ℕ) → Consumes remaining now text → IsAtEnd now
+    → IfSome remaining (λ bytes. text ≡ bytes)
 all_taken None now text moved end = tt
 all_taken (Some bytes) None text moved end = absurd moved
 all_taken (Some bytes) (Some rest) text moved end = sym (moved ∙ rw end (append-nil text))
@@ -24,7 +24,7 @@ loop-ended-init g c =
     let starts : (x : List ℕ) × (c.bytes.result.now ≡ 80 ∷ 52 ∷ x) = search rules in
     record {
       done = [];
-      so_far = rw c.in-Ok.ensures.options c.in-Ok.ensures.begun;
+      so_far = rw c.in-Ok.ensures.options c.in-Ok.ensures.origin;
       options = c.in-Ok.ensures.options;
       begins = rw c.bytes.ensures at starts;
       moved = rw bytes more.moved;
@@ -54,7 +54,8 @@ loop-ended-preserved g c =
       so_far = rw c.bytes-in-loop-ended.ensures at (c.in-Ok-take_images.ensures.so_far old.done old.so_far);
       options = c.in-Ok-take_images.ensures.options ∙ old.options;
       begins = (old.begins.0 ++ more.text, rw (bytes, whole) (ap (λ (l : List ℕ). l ++ more.text) old.begins.1));
-      moved = rw (bytes, whole) (Consumes-trans _ (g.R.Source.left c.loop-ended.input) _ (old.done ++ held) more.text
+      moved = rw (bytes, whole) (Consumes-trans _ (g.R.Source.remaining c.loop-ended.input) _ (old.done
+          ++ held) more.text
           old.moved more.moved);
       all = omega (
         arith,
@@ -76,7 +77,7 @@ pub returns-clause-converts : goal.returns-clause-converts
 returns-clause-converts g c =
     let old = c.loop-ended.invariant in
     let held = c.loop-ended.held.bytes in
-    let same = all_taken _ (g.R.Source.left c.loop-ended.input) (old.done ++ held) old.moved
+    let same = all_taken _ (g.R.Source.remaining c.loop-ended.input) (old.done ++ held) old.moved
     (old.end c.loop-ended-test.false) in (
       old.done ++ held,
       same,

@@ -2,18 +2,18 @@ use Rattle.std.proofs.Common.{codes, refl, []}
 use Rattle.fax_tool.proofs.PrintLemmas.{last_stopped, next_is_last}
 use Rattle.fax_tool.proofs.commands.print.give_last_line.Goals as goal
 
-pub returns-in-Some-Proper-clause-err : goal.returns-in-Some-Proper-clause-err
-returns-in-Some-Proper-clause-err g c =
+pub returns-in-Some-EndOfPages-clause-err : goal.returns-in-Some-EndOfPages-clause-err
+returns-in-Some-EndOfPages-clause-err g c =
     last_stopped _ _ _ c.args.last.long _ _ _ c.args.last.ending
-    c.give_all.result (codes "end\n") (let field = rw c.in-Some-Proper.is at c.in-Some-Proper.field-0-is in rw
-    (c.in-Some-Proper.is, field) refl) c.give_all.ensures.err
+    c.write_all.result (codes "end\n") (let field = rw c.in-Some-EndOfPages.is at c.in-Some-EndOfPages.field-0-is in rw
+    (c.in-Some-EndOfPages.is, field) refl) c.write_all.ensures.err
 
 pub returns-in-Some-Outside-clause-err : goal.returns-in-Some-Outside-clause-err
 returns-in-Some-Outside-clause-err g c =
     last_stopped _ _ _ c.args.last.long _ _ _ c.args.last.ending
-    c.give_all-in-Some-Outside.result [] (let field = rw c.in-Some-Outside.is at c.in-Some-Outside.field-0-is in rw
+    c.write_all-in-Some-Outside.result [] (let field = rw c.in-Some-Outside.is at c.in-Some-Outside.field-0-is in rw
     (c.in-Some-Outside.is, field) refl)
-    c.give_all-in-Some-Outside.ensures.err
+    c.write_all-in-Some-Outside.ensures.err
 
 pub returns-in-Some-Fault-clause-err : goal.returns-in-Some-Fault-clause-err
 returns-in-Some-Fault-clause-err g c =

@@ -3,7 +3,7 @@ use Rattle.std.proofs.Common.{length-append}
 use Rattle.std.proofs.KnownBytes.{Consumes-trans}
 use Rattle.std.proofs.lemmas.List.{drop_all}
 use Rattle.fax_files.specs.Directory.{max_file}
-use Rattle.fax_tool.specs.code.Held.{HeldBytes}
+use Rattle.fax_tool.specs.code.InputBuffer.{HeldBytes}
 use Rattle.fax_tool.proofs.streams.transfer.read_rest.Goals as goal
 
 pub loop-file-smaller : goal.loop-file-smaller
@@ -27,7 +27,7 @@ loop-file-preserved g c =
       text = old.text ++ more.text;
       bytes_are = rw (file, bytes) (ap (λ (l : List ℕ). l ++ more.text) old.bytes_are
           ∙ append_assoc c.args.held.bytes old.text more.text);
-      moved = Consumes-trans _ (g.R.Source.left c.loop-file.input) _ old.text more.text old.moved more.moved;
+      moved = Consumes-trans _ (g.R.Source.remaining c.loop-file.input) _ old.text more.text old.moved more.moved;
       all = omega (
         arith,
         more.taken_is,

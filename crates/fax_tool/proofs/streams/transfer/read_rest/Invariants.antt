@@ -9,11 +9,11 @@ abbrev pub invariant-loop-file : goal.invariant-loop-file
 invariant-loop-file g l = record {
   text : List ℕ;
   bytes_are : l.file.items ++ l.held.bytes ≡ l.fn.held.bytes ++ text;
-  moved : Consumes (g.R.Source.left l.initial.input) (g.R.Source.left l.input) text;
+  moved : Consumes (g.R.Source.remaining l.initial.input) (g.R.Source.remaining l.input) text;
   all : l.held.taken ≡ length l.file.items + length l.held.bytes;
   taken : g.R.Source.taken l.input ≡ l.held.taken;
   counts : g.R.Source.counts l.input ≡ counted l.interruptions;
-  end : l.ended ≡ true → IsAtEnd (g.R.Source.left l.input);
+  end : l.ended ≡ true → IsAtEnd (g.R.Source.remaining l.input);
 }
 
 abbrev pub decreases-loop-file : goal.decreases-loop-file

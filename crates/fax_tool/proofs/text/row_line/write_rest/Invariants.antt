@@ -3,7 +3,7 @@ use Rattle.std.specs.Prelude.{flat_map}
 use Rattle.fax_tool.specs.Text.{and_number}
 use Rattle.fax_tool.proofs.text.row_line.write_rest.Given as goal
 
--- what is written and what is due are all runs, after what stood there
+-- what is written and what is expected are all runs, after what stood there
 abbrev pub invariant-loop-run : goal.invariant-loop-run
 invariant-loop-run l = record {
   text : take l.end l.bytes ++ flat_map and_number l.runs ≡ take l.at l.initial.bytes ++ flat_map and_number l.fn.runs;

@@ -4,7 +4,7 @@ use Rattle.fax_rows.specs.Rows.{runs_of}
 use Rattle.fax_tool.specs.Text.{and_number}
 use Rattle.fax_tool.proofs.text.row_line.write_runs.Given as goal
 
--- what is written and what is due are all runs, after what stood there
+-- what is written and what is expected are all runs, after what stood there
 abbrev pub invariant-loop-eight : goal.invariant-loop-eight
 invariant-loop-eight l = record {
   text : take l.end l.bytes ++ flat_map and_number l.runs ≡ take l.at l.initial.bytes

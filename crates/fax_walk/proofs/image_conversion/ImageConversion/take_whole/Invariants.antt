@@ -7,7 +7,7 @@ abbrev pub invariant-loop-image : goal.invariant-loop-image
 invariant-loop-image l = record {
   none : l.reader.fault ≡ None;
   done : List ℕ;
-  split : l.fn.bytes ≡ done ++ l.reader.left;
+  split : l.fn.bytes ≡ done ++ l.reader.remaining;
   so_far : (before : List ℕ)
       → IsConverting before l.initial.self.options l.initial.self.images l.initial.self.output
       → IsConverting (before ++ done) l.self.options l.self.images l.self.output;
@@ -15,4 +15,4 @@ invariant-loop-image l = record {
 }
 
 abbrev pub decreases-loop-image : goal.decreases-loop-image
-decreases-loop-image l = length l.reader.left
+decreases-loop-image l = length l.reader.remaining

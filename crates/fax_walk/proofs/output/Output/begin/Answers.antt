@@ -5,8 +5,8 @@ use Rattle.fax_walk.proofs.OutputLemmas.{image_too_large, image_begun}
 use Rattle.fax_walk.proofs.output.Output.begin.Goals as goal
 
 pub returns-then-saturating_add-gt-MAX_OUTPUT : goal.returns-then-saturating_add-gt-MAX_OUTPUT
-returns-then-saturating_add-gt-MAX_OUTPUT c = λ at due.
-    let has = rw c.in-Images.is at due.written in
+returns-then-saturating_add-gt-MAX_OUTPUT c = λ at upcoming.
+    let has = rw c.in-Images.is at upcoming.written in
     let new_is = c.in_ok-put_head-in-Images.ensures in
     let packed : c.div_ceil-row_len.result ≡ packed_len c.args.sheet.now.width =
     omega (arith, c.div_ceil-row_len.ensures) in
@@ -30,8 +30,8 @@ returns-then-saturating_add-gt-MAX_OUTPUT c = λ at due.
     }
 
 pub returns-else-saturating_add-gt-MAX_OUTPUT : goal.returns-else-saturating_add-gt-MAX_OUTPUT
-returns-else-saturating_add-gt-MAX_OUTPUT c = λ at due.
-    let has = rw c.in-Images.is at due.written in
+returns-else-saturating_add-gt-MAX_OUTPUT c = λ at upcoming.
+    let has = rw c.in-Images.is at upcoming.written in
     let packed : c.div_ceil-row_len.result ≡ packed_len c.args.sheet.now.width =
     omega (arith, c.div_ceil-row_len.ensures) in
     let raster = ap (λ n. c.args.sheet.now.rows * n) packed in

@@ -6,15 +6,16 @@ use Rattle.fax_walk.proofs.pages.Pages.next_page.Goals as goal
 pub invariant_of-self : goal.invariant_of-self
 invariant_of-self c =
     let laws = c.form_tails_are_one.ensures in
-    let due = rw (sym c.page.view_is, sym c.self.view_is) at c.in-Ok.ensures.ok in
-    let after : c.given.result ≡ c.page.inside.page + 1 = c.given.ensures ∙ c.page.invariant.its.after.given in
-    let short : c.page.inside.page + 1 < 2 ^ 32 = omega (arith, after, c.given.type_inv) in
-    let hands = page_given laws.one laws.first _ _ due c.page.invariant.its c.page.invariant.limits short in
+    let upcoming = rw (sym c.page.view_is, sym c.self.view_is) at c.in-Ok.ensures.ok in
+    let after : c.yielded.result ≡ c.page.inside.page + 1 = c.yielded.ensures ∙ c.page.invariant.its.after.yielded in
+    let short : c.page.inside.page + 1 < 2 ^ 32 = omega (arith, after, c.yielded.type_inv) in
+    let hands = page_given laws.one laws.first _ _ upcoming c.page.invariant.its c.page.invariant.limits short in
     record {
-      come = given_more c.self.inside.file.now c.self.inside.begun c.self.inside.given _ due.come due.file_is
+      come = given_more c.self.inside.file.now c.self.inside.origin c.self.inside.yielded _ upcoming.come
+          upcoming.file_is
           c.page.invariant.its;
       cursor_is = inr (
-        c.self.inside.given,
+        c.self.inside.yielded,
         record { page = c.page.inside.page; form = c.page.inside.form },
         refl,
         hands.0.number,

@@ -16,45 +16,45 @@ returns-in-Some c = item_handed c.pages.invariant _ _ c.in-Some.ensures
 
 pub invariant_of-self-in_err-next_page : goal.invariant_of-self-in_err-next_page
 invariant_of-self-in_err-next_page c =
-    let left = left_in_file c.pages.invariant _ _ c.in_default.ensures c.leave-clean.ensures.clean in
-    rw c.leave-clean.ensures.none left.sound
+    let remaining = left_in_file c.pages.invariant _ _ c.in_default.ensures c.close_page-clean.ensures.clean in
+    rw c.close_page-clean.ensures.none remaining.sound
 
 pub invariant_of-self-in-Ends : goal.invariant_of-self-in-Ends
 invariant_of-self-in-Ends c =
-    let left = left_in_file c.pages.invariant _ _ c.in_default.ensures c.leave-clean.ensures.clean in
-    rw c.leave-clean.ensures.none left.sound
+    let remaining = left_in_file c.pages.invariant _ _ c.in_default.ensures c.close_page-clean.ensures.clean in
+    rw c.close_page-clean.ensures.none remaining.sound
 
 pub returns-in-Ends : goal.returns-in-Ends
 returns-in-Ends c =
-    let left = left_in_file c.pages.invariant _ _ c.in_default.ensures c.leave-clean.ensures.clean in
-    ends_there (rw c.in-Some-chain.is at left) (rw c.in-Ends.is at c.in_ok-next_page.ensures)
+    let remaining = left_in_file c.pages.invariant _ _ c.in_default.ensures c.close_page-clean.ensures.clean in
+    ends_there (rw c.in-Some-chain.is at remaining) (rw c.in-Ends.is at c.in_ok-next_page.ensures)
 
 pub invariant_of-self-in-Broken : goal.invariant_of-self-in-Broken
 invariant_of-self-in-Broken c =
-    let left = left_in_file c.pages.invariant _ _ c.in_default.ensures c.leave-clean.ensures.clean in
-    rw (c.in-Some-chain.is, c.leave-clean.ensures.none) (broken_in_file (rw c.in-Some-chain.is at left))
+    let remaining = left_in_file c.pages.invariant _ _ c.in_default.ensures c.close_page-clean.ensures.clean in
+    rw (c.in-Some-chain.is, c.close_page-clean.ensures.none) (broken_in_file (rw c.in-Some-chain.is at remaining))
 
 pub returns-in-Broken : goal.returns-in-Broken
 returns-in-Broken c =
-    let left = left_in_file c.pages.invariant _ _ c.in_default.ensures c.leave-clean.ensures.clean in
-    broken_there (rw c.in-Some-chain.is at left) (rw c.in-Broken.is at c.in_ok-next_page.ensures)
+    let remaining = left_in_file c.pages.invariant _ _ c.in_default.ensures c.close_page-clean.ensures.clean in
+    broken_there (rw c.in-Some-chain.is at remaining) (rw c.in-Broken.is at c.in_ok-next_page.ensures)
 
 pub invariant_of-self-in-Refused : goal.invariant_of-self-in-Refused
 invariant_of-self-in-Refused c =
-    let left = left_in_file c.pages.invariant _ _ c.in_default.ensures c.leave-clean.ensures.clean in
-    let few : c.in-Some-chain.chain.given < 2 ^ 32 = rw c.given-page.ensures at c.given-page.type_inv in
-    rw c.leave-clean.ensures.none
-    (refused_in_file (rw c.in-Some-chain.is at left) _ _ (rw c.in-Refused.is at c.in_ok-next_page.ensures) few)
+    let remaining = left_in_file c.pages.invariant _ _ c.in_default.ensures c.close_page-clean.ensures.clean in
+    let few : c.in-Some-chain.chain.yielded < 2 ^ 32 = rw c.yielded-page.ensures at c.yielded-page.type_inv in
+    rw c.close_page-clean.ensures.none
+    (refused_in_file (rw c.in-Some-chain.is at remaining) _ _ (rw c.in-Refused.is at c.in_ok-next_page.ensures) few)
 
 pub returns-in-Refused : goal.returns-in-Refused
 returns-in-Refused c =
-    let left = left_in_file c.pages.invariant _ _ c.in_default.ensures c.leave-clean.ensures.clean in
-    let few : c.in-Some-chain.chain.given < 2 ^ 32 = rw c.given-page.ensures at c.given-page.type_inv in
-    rw (c.given-page.ensures, c.leave-clean.ensures.none)
-    (refused_there (rw c.in-Some-chain.is at left) _ _ (rw c.in-Refused.is at c.in_ok-next_page.ensures) few)
+    let remaining = left_in_file c.pages.invariant _ _ c.in_default.ensures c.close_page-clean.ensures.clean in
+    let few : c.in-Some-chain.chain.yielded < 2 ^ 32 = rw c.yielded-page.ensures at c.yielded-page.type_inv in
+    rw (c.yielded-page.ensures, c.close_page-clean.ensures.none)
+    (refused_there (rw c.in-Some-chain.is at remaining) _ _ (rw c.in-Refused.is at c.in_ok-next_page.ensures) few)
 
 pub pages-preserved : goal.pages-preserved
 pages-preserved c =
-    let left = left_in_file c.pages.invariant _ _ c.in_default.ensures c.leave-clean.ensures.clean in
-    let few : c.in-Some-chain.chain.given < 2 ^ 32 = rw c.given-page.ensures at c.given-page.type_inv in
-    entered_in_file (rw c.in-Some-chain.is at left) _ _ (rw c.in-Entered.is at c.in_ok-next_page.ensures) few
+    let remaining = left_in_file c.pages.invariant _ _ c.in_default.ensures c.close_page-clean.ensures.clean in
+    let few : c.in-Some-chain.chain.yielded < 2 ^ 32 = rw c.yielded-page.ensures at c.yielded-page.type_inv in
+    entered_in_file (rw c.in-Some-chain.is at remaining) _ _ (rw c.in-Entered.is at c.in_ok-next_page.ensures) few

@@ -2,7 +2,7 @@ use Rattle.std.proofs.Common.{◌-◌, ◌*◌, ◌/◌, Err, refl, subst}
 use Rattle.std.proofs.lemmas.Result.{err_from_is_err_and}
 use Rattle.fax_page.specs.declared.StripForm.{StripForm}
 use Rattle.fax_page.specs.views.Salvage.{IsSalvageInside}
-use Rattle.fax_walk.proofs.SalvagePlaceLemmas.{begun_at, begun_at_in_page, holds_row, not_begun_at}
+use Rattle.fax_walk.proofs.SalvagePlaceLemmas.{started_at, begun_at_in_page, holds_row, not_begun_at}
 use Rattle.fax_walk.proofs.salvage_rows.SalvageRows.begin_at.Goals as goal
 
 pub returns-in_err-reader-clause-err : goal.returns-in_err-reader-clause-err
@@ -19,15 +19,15 @@ returns-in_err-reader-clause-err c =
 
 pub invariant_of-result : goal.invariant_of-result
 invariant_of-result c =
-    let begun = rw c.strip_form-strip_form.ensures.exact at c.in_ok-reader.ensures in
+    let origin = rw c.strip_form-strip_form.ensures.exact at c.in_ok-reader.ensures in
     begun_at_in_page c.args.strips c.args.form c.args.row _ _ c.args.bits _ _ c.args.before
     c.bytes_left-whole.ensures.bytes c.in_ok-reader.reader
-    (holds_row c.args.form c.args.row _ c.requires.limits c.requires.due refl) begun.0 begun.2 c.requires.form
-    c.requires.limits c.requires.count (c.bits_stand_by_place.ensures.count _ _)
+    (holds_row c.args.form c.args.row _ c.requires.limits c.requires.upcoming refl) origin.0 origin.2 c.requires.form
+    c.requires.limits c.requires.count (c.bits_stand_by_index.ensures.count _ _)
 
 pub returns-clause-ok : goal.returns-clause-ok
 returns-clause-ok c =
-    let begun = rw c.strip_form-strip_form.ensures.exact at c.in_ok-reader.ensures in
-    begun_at c.args.strips c.args.form c.args.row _ _ c.args.bits _ _ c.args.before
+    let origin = rw c.strip_form-strip_form.ensures.exact at c.in_ok-reader.ensures in
+    started_at c.args.strips c.args.form c.args.row _ _ c.args.bits _ _ c.args.before
     c.bytes_left-whole.ensures.bytes c.in_ok-reader.reader
-    (holds_row c.args.form c.args.row _ c.requires.limits c.requires.due refl) begun.0 begun.2 begun.1
+    (holds_row c.args.form c.args.row _ c.requires.limits c.requires.upcoming refl) origin.0 origin.2 origin.1

@@ -10,15 +10,15 @@ returns-then-row-strip_form c =
 pub overflow_sub-bits : goal.overflow_sub-bits
 overflow_sub-bits c =
     let not_gone = rw (c.row.ensures, c.strip_form.ensures.exact) at c.if-row-strip_form.false in
-    rw c.bits_due.ensures
+    rw c.bits_remaining.ensures
     (due_fits _ _ _ _ _ _ c.self.invariant _ _ not_gone c.bytes_left-whole.ensures.bytes
-    c.bits_stand_by_place.ensures.count)
+    c.bits_stand_by_index.ensures.count)
 
 pub returns : goal.returns
 returns c =
     let not_gone = rw (c.row.ensures, c.strip_form.ensures.exact) at c.if-row-strip_form.false in
-    rw (← c.self.view_is, c.bits_due.ensures)
+    rw (← c.self.view_is, c.bits_remaining.ensures)
     (place_here _ _ _ _ _ _ c.self.invariant _ _ not_gone c.bytes_left-whole.ensures.bytes
-    c.bits_stand_by_place.ensures.count
+    c.bits_stand_by_index.ensures.count
     (record { bits = _; reference = c.reference.result }) refl c.reference.ensures.pels
     c.reference.ensures.width)

@@ -5,7 +5,7 @@ use Rattle.fax_walk.proofs.walk.Walk.last_row.Goals as goal
 pub returns-in-Some : goal.returns-in-Some
 returns-in-Some c =
     let w = c.self.inside in
-    let none : w.told ≡ None = rw (sym c.self.view_is) at c.requires in
+    let none : w.final_end ≡ None = rw (sym c.self.view_is) at c.requires in
     let shown = (rw (none, c.in-Some.is) at c.self.invariant).1 in
     let last = shown.last in
     let page = sym (ap (λ (at : Cursor). at.page) last.cursor_is) in

@@ -1,12 +1,12 @@
 use Rattle.std.proofs.Common.{arith, Option, Result}
 use Rattle.std.specs.Prelude.{IfOk}
 use Rattle.fax_bits.specs.declared.Memory.{Memory}
-use Rattle.fax_walk.specs.Pages.{LongPlace}
+use Rattle.fax_walk.specs.Pages.{LongCursorValue}
 use Rattle.fax_walk.proofs.WalkLemmas.{long_is}
 use Rattle.fax_walk.proofs.walk.Walk.long_cursor.Goals as goal
 
-if_ok : (result : Result (Option LongPlace) Memory) (P Q : Option LongPlace → Type 0)
-    → ((place : Option LongPlace) → P place → Q place)
+if_ok : (result : Result (Option LongCursorValue) Memory) (P Q : Option LongCursorValue → Type 0)
+    → ((place : Option LongCursorValue) → P place → Q place)
     → IfOk result P → IfOk result Q
 if_ok result P Q so holds = grind arith
 

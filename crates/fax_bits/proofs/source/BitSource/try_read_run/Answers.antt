@@ -1,0 +1,24 @@
+use Rattle.std.proofs.Common.{inl, arith}
+use Rattle.fax_bits.proofs.AheadLemmas.{begun_short, looked_up}
+use Rattle.fax_bits.proofs.LookUpLemmas.{run_written, run_taken}
+use Rattle.fax_bits.proofs.source.BitSource.try_read_run.Goals as goal
+
+pub after-self-inside-requires : goal.after-self-inside-requires
+after-self-inside-requires c = grind (arith, begun_short)
+
+pub returns : goal.returns
+returns c =
+    let w = c.in_ok-self-inside in
+    let after = c.after-self-inside in
+    let is =
+    looked_up _ _ _ w.field-0 _ c.self.invariant c.self.view_is w.ensures.ahead w.ensures.place w.ensures.within 32
+    (omega arith) w.ensures.many _ (c.number.ensures.number _ _ (inl w.ensures.many)) c.in_ok-len.ensures after.result
+    after.ensures.count after.ensures.at in
+    record {
+      run = run_taken c.args.colour is.front c.args.self.now.remaining c.in_ok-len.pels _ is.meaning is.taken;
+      written = run_written c.args.colour is.front c.args.self.now.remaining c.in_ok-len.pels _ is.meaning is.taken;
+      few = c.if-pels-most.false;
+      unchanged = λ none. cc;
+      same_end = is.same_end;
+      shorter = λ some. is.shorter;
+    }

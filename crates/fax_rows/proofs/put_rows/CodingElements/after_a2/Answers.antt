@@ -1,0 +1,10 @@
+use Rattle.std.proofs.Common.{arith}
+use Rattle.fax_rows.proofs.WrittenStepLemmas.{from_a2, b1_after_a2}
+use Rattle.fax_rows.proofs.put_rows.CodingElements.after_a2.Goals as goal
+
+pub returns-clause-changes : goal.returns-clause-changes
+returns-clause-changes c = record {
+  row = from_a2 c.requires.changes;
+  reference = λ inside.
+      b1_after_a2 c.requires.changes _ (c.b1_after.ensures (omega arith));
+}

@@ -1,0 +1,71 @@
+//! The size and the resolution of a page that is converted.
+ghost use Rattle.std.specs.Prelude.{◌≡◌, ◌≢◌, true};
+ghost use Rattle.fax_files.specs.views.Page.{IsPageForm};
+ghost use Rattle.fax_walk.specs.code.Output as Spec;
+
+use crate::options::Options;
+use fax_files::{Coding, PageForm, PbmImage};
+
+/// What a page is, but for how it is written: its size and its resolution.
+#[derive(Clone, Copy)]
+pub(crate) struct PageSize {
+    pub(crate) width: u32,
+    pub(crate) rows: u32,
+    pub(crate) x: (u32, u32),
+    pub(crate) y: (u32, u32),
+    pub(crate) unit: u16,
+}
+
+impl PageSize {
+    /// The sheet of an image, which has no resolution of its own.
+    pub(crate) fn of_image(image: &PbmImage) -> Self
+        ensures exact { result ≡ Spec.image_sheet image.now.width image.now.rows }
+        ensures limits { Spec.IsSheet result }
+    {
+        PageSize {
+            width: image.width,
+            rows: image.rows,
+            x: (204, 1),
+            y: (196, 1),
+            unit: 2,
+        }
+    }
+
+    /// The sheet of a page, which keeps its resolution.
+    pub(crate) fn of_form(form: &PageForm) -> Self
+        requires { IsPageForm form.now }
+        ensures exact { result ≡ Spec.form_sheet form.now }
+        ensures limits { Spec.IsSheet result }
+    {
+        PageSize {
+            width: form.width,
+            rows: form.rows,
+            x: form.x,
+            y: form.y,
+            unit: form.unit,
+        }
+    }
+
+    /// The form of the page as it is written.
+    pub(crate) fn form(&self, options: &Options, coding: Coding) -> PageForm
+        requires limits { Spec.IsSheet self.now }
+        requires has_eols { options.now.aligned ≡ true → coding ≢ Coding.Mmr }
+        ensures exact { result ≡ Spec.sheet_form options.now coding self.now }
+        ensures limits { IsPageForm result }
+    {
+        let rows_per_strip = options.strip.unwrap_or(self.rows).min(self.rows);
+        PageForm {
+            width: self.width,
+            rows: self.rows,
+            coding,
+            order: options.order,
+            aligned: options.aligned,
+            exchanged: false,
+            rows_per_strip,
+            strips: self.rows.div_ceil(rows_per_strip),
+            x: self.x,
+            y: self.y,
+            unit: self.unit,
+        }
+    }
+}
