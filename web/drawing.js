@@ -131,16 +131,17 @@ class Shrunk {
         this.down = down;
         this.columns = Math.ceil(width / across);
         this.black = new Uint32Array(this.columns * Math.ceil(height / down));
-        this.lost = new Uint8Array(Math.ceil(height / down));
+        /** How many rows of each line are found. */
+        this.found = new Uint32Array(Math.ceil(height / down));
     }
 
     /** @param {number} row @param {Uint8Array | null} bytes */
     add(row, bytes) {
         const line = Math.floor(row / this.down);
         if (!bytes) {
-            this.lost[line] = 1;
             return;
         }
+        this.found[line]++;
         for (let pel = 0; pel < this.width; pel++) {
             const at = this.x + pel;
             if (bytes[at >> 3] === 0 && (at & 7) === 0) {
@@ -151,20 +152,25 @@ class Shrunk {
         }
     }
 
+    /** A shade of the rows that are found; the grey of lost rows where none is. */
     pels() {
         return Uint32Array.from(this.black, (black, cell) => {
-            const line = Math.floor(cell / this.columns);
-            const column = cell % this.columns;
-            const all = Math.min(this.across, this.width - column * this.across) *
-                Math.min(this.down, this.height - line * this.down);
-            const grey = Math.round(255 * (1 - Math.min(1, (Shrunk.INK * black) / all)));
-            return this.lost[line] ? Drawing.GREY : (0xff000000 | (grey << 16) | (grey << 8) | grey) >>> 0;
+            const found = this.found[Math.floor(cell / this.columns)];
+            const all = Math.min(this.across, this.width - (cell % this.columns) * this.across) * found;
+            return all ? Shrunk.shade((Shrunk.INK * black) / all) : Drawing.GREY;
         });
+    }
+
+    /** @param {number} ink from 0, which is white, to 1 or more, which is black */
+    static shade(ink) {
+        const grey = Math.round(255 * (1 - Math.min(1, ink)));
+        return (0xff000000 | (grey << 16) | (grey << 8) | grey) >>> 0;
     }
 }
 
 /** Counts the black pels of a page in cells, whose columns are whole bytes. */
 class Cells {
+    static INK = 1.6;
     static COUNTS = Uint8Array.from({ length: 256 }, (_, byte) => {
         let count = 0;
         for (let bits = byte; bits; bits >>= 1) {
@@ -179,8 +185,8 @@ class Cells {
         this.width = width;
         this.height = height;
         this.black = new Uint32Array(width * height);
+        /** How many pels of each cell are of rows that are found. */
         this.all = new Uint32Array(width * height);
-        this.lost = new Uint32Array(width * height);
         this.ends = Uint32Array.from({ length: width }, (_, column) =>
             Math.floor(((column + 1) * form.stride) / width));
     }
@@ -188,27 +194,19 @@ class Cells {
     /** @param {number} row @param {Uint8Array | null} bytes */
     add(row, bytes) {
         const line = Math.floor((row * this.height) / this.form.rows) * this.width;
-        for (let column = 0, at = 0; column < this.width; column++) {
+        for (let column = 0, at = 0; bytes && column < this.width; column++) {
             const cell = line + column;
             this.all[cell] += 8 * (this.ends[column] - at);
-            if (!bytes) {
-                this.lost[cell]++;
-                at = this.ends[column];
-            }
-            for (; bytes && at < this.ends[column]; at++) {
+            for (; at < this.ends[column]; at++) {
                 this.black[cell] += Cells.COUNTS[bytes[at]];
             }
         }
     }
 
-    /** The cells, a number for each; ink is drawn darker than it is, so that it is seen in small. */
+    /** The cells, a number for each: a shade of the rows that are found, in which ink is drawn darker than it is, so
+     * that it is seen in small; the grey of lost rows where none is found. */
     pels() {
-        return Uint32Array.from(this.black, (black, cell) => {
-            if (this.lost[cell]) {
-                return Drawing.GREY;
-            }
-            const grey = Math.round(255 * (1 - Math.min(1, (1.6 * black) / Math.max(1, this.all[cell]))));
-            return (0xff000000 | (grey << 16) | (grey << 8) | grey) >>> 0;
-        });
+        return Uint32Array.from(this.black, (black, cell) =>
+            this.all[cell] ? Shrunk.shade((Cells.INK * black) / this.all[cell]) : Drawing.GREY);
     }
 }

@@ -5,13 +5,21 @@ class Known {
     constructor() {
         /** @type {(Uint32Array | undefined)[]} */
         this.forms = [];
-        /** @type {Map<number, { name: string, fault: Fault, kind: Kind | null }>} */
+        /** @type {Map<number, { name: string, fault: Fault, kind: Kind | null, isEmpty: boolean }>} */
         this.refused = new Map();
         /** How many pages have a form, and how many are pictures of other kinds. */
         this.listed = 0;
         this.others = 0;
         /** @type {Map<number, LostRows>} */
         this.lost = new Map();
+        /** How many rows are lost, how much of the worst page, and the pages of which most are. */
+        this.lostRows = 0;
+        /** @type {"whole" | "slight" | "part" | "most"} */
+        this.worst = "whole";
+        this.mostly = { pages: /** @type {number[]} */ ([]), lost: 0, rows: 0 };
+        /** Pages of which all rows are found, though a fault says that the file was cut, and that fault.
+         * @type {Map<number, string>} */
+        this.cut = new Map();
         /** @type {Map<number, { strip: number, kind: number, name: string }[]>} */
         this.notes = new Map();
         this.state = "waits";
@@ -35,6 +43,7 @@ class LostRows {
     constructor(numbers, names) {
         this.numbers = numbers;
         this.names = names;
+        this.rows = numbers.reduce((sum, number, index) => sum + (index % 3 === 1 ? number : 0), 0);
     }
 
     get count() {
@@ -55,13 +64,15 @@ class LostRows {
  * A file that is open: what is known of it, and the worker that reads it. Pages and rows are numbered from 0, as the
  * program numbers them.
  *
- * @typedef {{ page: number, row: number, head: string, name: string, tag: number, kind: "fault" | "note" }} Finding
+ * @typedef {{ page: number, row: number, head: string, name: string, tag: number, isLost?: boolean,
+ *     isEnd?: boolean, isCut?: boolean }} Finding whose head does not name the page; whether rows are lost there, or
+ *     the file ends, or is cut where no row is lost
  */
 class Fax extends Known {
     /** The classes that a worker is made of. */
     static WORKER = [
-        Library, Cursor, Form, Left, Salvaging, Kinds, Reading, Drawing, Shrunk, Cells, Pdf, Png, Saving, Importing,
-        Broken, FaxWorker,
+        Library, Cursor, Form, Left, Salvaging, Kinds, Reading, Drawing, Shrunk, Cells, Pdf, Png, Rows, Saving,
+        Importing, Wrapping, Guessing, Broken, FaxWorker,
     ];
     static ids = 0;
 
@@ -75,8 +86,14 @@ class Fax extends Known {
             again: () => this.again(), told: (event) => this.take(event), failed: (error) => this.fail(error),
             rests: () => this.changed(this),
         });
-        /** The page that is looked at, which is gone back to with the file. */
+        /** The page that is looked at, which is gone back to with the file, and the finding that was gone to last.
+         * @type {number} */
         this.at = 0;
+        /** @type {{ page: number, row: number } | null} */
+        this.last = null;
+        /** By how many quarters pages are turned.
+         * @type {Map<number, number>} */
+        this.turns = new Map();
         /** Which reading of the file it is that is known: an answer of an earlier one is nobody's. */
         this.reading = 0;
         this.seen = "";
@@ -87,8 +104,10 @@ class Fax extends Known {
         this.making = null;
         /** @type {Bare | null} */
         this.coded = null;
-        /** Whether somebody said that it is bare data. */
-        this.isBare = false;
+        /** Whether it was guessed how they are coded, and not said. */
+        this.isGuessed = false;
+        /** Whether somebody said that it is bare data, or its name does. */
+        this.isBare = Guessing.NAMES.test(file.name);
     }
 
     /** What workers are made of: their text, as an address that a page from `file:` can hand over too, and the bytes
@@ -107,6 +126,7 @@ class Fax extends Known {
     read(wasChanged = false) {
         this.wasChanged = wasChanged;
         Object.assign(this, new Known());
+        this.coded = this.isGuessed ? null : this.coded;
         this.setMaking(null);
         this.reading++;
         this.seen = this.looks();
@@ -204,8 +224,10 @@ class Fax extends Known {
     }
 
     /** @param {any} data */
-    onBare({ told }) {
+    onBare({ told, coded, isGuessed }) {
         this.told = { kind: "bare", ...told };
+        this.coded = coded;
+        this.isGuessed = isGuessed;
         if (told.rows === 0) {
             this.move("done");
         }
@@ -221,9 +243,9 @@ class Fax extends Known {
         this.changed(this);
     }
 
-    /** @param {{ fault: Fault, name: string, kind: Kind | null }} data */
-    onRefused({ fault, name, kind }) {
-        this.refused.set(fault.page, { name, fault, kind });
+    /** @param {{ fault: Fault, name: string, kind: Kind | null, isEmpty: boolean }} data */
+    onRefused({ fault, name, kind, isEmpty }) {
+        this.refused.set(fault.page, { name, fault, kind, isEmpty });
         this.others += kind ? 1 : 0;
         this.pages = fault.page + 1;
         this.changed(this);
@@ -236,9 +258,30 @@ class Fax extends Known {
     }
 
     /** @param {any} data */
-    onLost({ page, stretches, names }) {
-        this.lost.set(page, new LostRows(stretches, names));
+    onLost({ page, stretches, names, name }) {
+        const lost = new LostRows(stretches, names);
+        if (lost.count === 0) {
+            this.cut.set(page, name);
+        } else {
+            this.lost.set(page, lost);
+            this.count(page, lost.rows);
+        }
         this.changed(this);
+    }
+
+    /** Counts the rows of a page that are lost.
+     * @param {number} page @param {number} lost */
+    count(page, lost) {
+        const rows = this.form(page)?.rows ?? lost;
+        const levels = /** @type {const} */ (["whole", "slight", "part", "most"]);
+        const level = Missing.level(lost, rows);
+        this.lostRows += lost;
+        this.worst = levels[Math.max(levels.indexOf(this.worst), levels.indexOf(level))];
+        if (level === "most") {
+            this.mostly.pages.push(page);
+            this.mostly.lost += lost;
+            this.mostly.rows += rows;
+        }
     }
 
     /** @param {any} data */
@@ -279,6 +322,12 @@ class Fax extends Known {
         return numbers ? new Form(numbers) : null;
     }
 
+    /** By how many quarters a page is turned to the right.
+     * @param {number} page */
+    turnsOf(page) {
+        return this.turns.get(page) ?? 0;
+    }
+
     /** The pages that were read wholly. */
     wholePages() {
         const read = this.state === "left" ? this.page : this.pages;
@@ -304,63 +353,88 @@ class Fax extends Known {
         return !isOther ? null : this.pages ? this.refused.get(0)?.kind ?? null : this.end?.kind ?? null;
     }
 
-    /** What a page is like.
-     * @param {number} page */
-    stateOf(page) {
-        const refused = this.refused.get(page);
-        return refused ? (refused.kind ? "other" : "refused") : this.lost.has(page) ? "damaged" : "whole";
+    /** How the file looks in the list, and its verdict. */
+    look() {
+        const isDamaged = this.refused.size > this.others || this.told?.isOpen || this.told?.rows === 0 ||
+            (this.end && this.end.name !== "DirectoryLoop") || ["part", "most"].includes(this.worst);
+        return isDamaged || this.pages === 0 ? "damaged" : this.isWhole() ? "whole" : "slight";
     }
 
-    /** What is wrong, page by page, and downwards: as many as are asked for, and how many there are.
-     * @param {number} most */
-    findings(most) {
+    /** What a page is like.
+     * @param {number} page @returns {"other" | "refused" | "whole" | "slight" | "part" | "most"} */
+    stateOf(page) {
+        const refused = this.refused.get(page);
+        return refused ? (refused.kind ? "other" : "refused")
+            : Missing.level(this.lost.get(page)?.rows ?? 0, this.form(page)?.rows ?? 1);
+    }
+
+    /** The same in words.
+     * @param {number} page */
+    sayState(page) {
+        const state = this.stateOf(page);
+        const lost = this.lost.get(page);
+        return lost ? say(TEXTS.pages[state], sayCount(lost.rows, "row", "rows")) : TEXTS.pages[state];
+    }
+
+    /** What is wrong, or what is noted, page by page, and downwards: as many as are asked for, and how many there are.
+     * @param {number} most @param {"fault" | "note"} [kind] */
+    findings(most, kind = "fault") {
+        const isFault = kind === "fault";
+        const parts = isFault ? [this.refused, this.lost] : [this.cut, this.notes];
+        const shown = [...this.notes.values()].reduce((count, notes) => count + notes.length, 0);
+        // More notes may be counted than were told.
+        let all = isFault ? 0 : Math.max(0, (this.report?.count ?? 0) - shown);
         /** @type {Finding[]} */
         const found = [];
-        const pages = [...new Set([...this.refused.keys(), ...this.lost.keys(), ...this.notes.keys()])];
-        const shown = [...this.notes.values()].reduce((count, notes) => count + notes.length, 0);
-        // More notes may be counted than were handed out.
-        const unseen = Math.max(0, (this.report?.count ?? 0) - shown);
-        const all = pages.sort((one, other) => one - other).reduce((count, page) => {
-            const here = found.length < most ? this.findingsOf(page, most) : [];
+        const pages = new Set(parts.flatMap((part) => [...part.keys()]));
+        for (const page of [...pages].sort((one, other) => one - other)) {
+            const here = found.length < most ? (isFault ? this.faultsOf(page, most) : this.notesOf(page)) : [];
             found.push(...here.slice(0, most - found.length));
-            return count + (this.refused.has(page) ? 1 : 0) + (this.lost.get(page)?.count ?? 0) +
-                (this.notes.get(page)?.length ?? 0);
-        }, unseen);
-        const isFault = this.end && !this.end.kind;
-        if (isFault && found.length < most) {
-            found.push(this.endFinding());
+            all += isFault ? Number(this.refused.has(page)) + (this.lost.get(page)?.count ?? 0)
+                : Number(this.cut.has(page)) + (this.notes.get(page)?.length ?? 0);
         }
-        return { found, all: all + (isFault ? 1 : 0) };
+        if (isFault && this.end && !this.end.kind) {
+            all++;
+            found.push(...(found.length < most ? [this.endFinding()] : []));
+        }
+        return { found, all };
     }
 
     /** @returns {Finding} */
     endFinding() {
         const { fault, name } = this.end;
-        const head = fault.page === 0 ? TEXTS.findings.file : say(TEXTS.findings.chain, sayPage(fault.page));
-        return { page: Math.max(0, fault.page - 1), row: 0, head, name, tag: fault.tag, kind: "fault" };
+        return { page: Math.max(0, fault.page - 1), row: 0, name, tag: fault.tag, isEnd: true,
+            head: fault.page === 0 ? TEXTS.findings.file : TEXTS.findings.chain };
     }
 
-    /** As many of a page as are asked for, and maybe more.
+    /** What is wrong with a page: as many places as are asked for.
      * @param {number} page @param {number} most @returns {Finding[]} */
-    findingsOf(page, most) {
+    faultsOf(page, most) {
         const refused = this.refused.get(page);
         const texts = TEXTS.findings;
-        const notes = (this.notes.get(page) ?? []).map(({ strip, kind, name }) => {
+        if (refused) {
+            const head = refused.kind ? say(texts.otherPage, sayOfKind(refused.kind)[0]) : texts.page;
+            return [{ page, row: 0, name: refused.name, tag: refused.fault.tag, head }];
+        }
+        return (this.lost.get(page)?.stretches(most) ?? []).map(({ from, to, name }) => ({
+            page, row: from, name, tag: 0, isLost: true,
+            head: from === to ? say(texts.row, from + 1) : say(texts.rows, from + 1, to + 1) }));
+    }
+
+    /** What is noted of a page.
+     * @param {number} page @returns {Finding[]} */
+    notesOf(page) {
+        const texts = TEXTS.findings;
+        const cut = this.cut.get(page);
+        /** @type {Finding[]} */
+        const found = cut === undefined ? []
+            : [{ page, row: 0, name: cut, tag: 0, isCut: true, head: texts.cut }];
+        return [...found, ...(this.notes.get(page) ?? []).map(({ strip, kind, name }) => {
             const isStrip = strip !== Library.NO_STRIP;
             return { page, row: isStrip ? strip * (this.form(page)?.rowsOfStrip ?? 0) : 0, tag: 0,
                 name: isKnownNote(name) ? name : `N${kind} ${name}`,
-                kind: /** @type {"note"} */ ("note"),
-                head: isStrip ? say(texts.strip, sayPage(page), sayPage(strip)) : say(texts.directory, sayPage(page)) };
-        });
-        const lost = (this.lost.get(page)?.stretches(most) ?? []).map(({ from, to, name }) => ({
-            page, row: from, name, tag: 0, kind: /** @type {"fault"} */ ("fault"),
-            head: from === to ? say(texts.row, sayPage(page), from + 1)
-                : say(texts.rows, sayPage(page), from + 1, to + 1) }));
-        const faults = refused ? [{ page, row: 0, name: refused.name, tag: refused.fault.tag,
-            kind: /** @type {"fault"} */ ("fault"), head: refused.kind
-                ? say(texts.otherPage, sayPage(page), sayOfKind(refused.kind)[0])
-                : say(texts.page, sayPage(page)) }] : [];
-        return [...faults, ...notes, ...lost].sort((one, other) => one.row - other.row);
+                head: isStrip ? say(texts.strip, sayPage(strip)) : "" };
+        })];
     }
 
     /** What is said of the whole file: that it cannot be read any more comes first. */
@@ -382,49 +456,20 @@ class Fax extends Known {
             case "left": return say(texts.left, sayPage(this.page), this.pages);
             case "reads":
             case "checks": return say(texts.reads, sayPage(Math.min(this.page, this.pages - 1)), this.pages, this.rows);
-            default: return [this.toldVerdict(), this.pages || !this.told ? this.pagesVerdict() : ""].join(" ").trim();
+            default: return new Verdict(this).text();
         }
     }
 
-    /** What is said of a file that was no TIFF. */
-    toldVerdict() {
-        const { told } = this;
-        const texts = TEXTS.verdicts;
-        if (!told) {
-            return "";
-        }
-        if (told.kind === "images") {
-            return `${say(texts.image, sayPage(told.image))} ${sayOfFault(told.name).join(" ")}`;
-        }
-        const means = told.name ? sayOfFault(told.name)[0].replace(/\.$/, "") : "";
-        if (told.rows === 0) {
-            return say(texts.bareNothing, told.name ? means : texts.bareEnds);
-        }
-        const parts = [told.name ? say(texts.bareDamaged, told.rows, means, told.rows + 1) : "",
-            told.missing ? say(texts.bareMissing, told.rows, told.missing) : ""];
-        return parts.join(" ").trim() || say(texts.bareWhole, told.rows);
+    /** What no reader sees of the codings of damaged pages.
+     * @returns {string[]} */
+    unseen() {
+        return [...new Set([...this.lost.keys()].map((page) => this.unseenOf(page)))];
     }
 
-    pagesVerdict() {
-        const texts = TEXTS.verdicts;
-        const pages = sayCount(this.pages, "page", "pages");
-        const damaged = this.refused.size - this.others + this.lost.size;
-        const kind = this.otherKind();
-        if (kind) {
-            return say(texts.other, ...sayOfKind(kind));
-        }
-        if (this.pages === 0) {
-            return texts.nothing;
-        }
-        const parts = damaged ? [say(texts.damaged, this.pages - this.others - damaged, pages)] : [];
-        if (this.others) {
-            parts.push(say(texts.others, this.others, pages));
-        }
-        if (this.end) {
-            parts.push(say(texts.chain, String(this.end.fault.page)));
-        }
-        return parts.length > 0 ? parts.join(" ")
-            : say(this.notes.size ? texts.noted : texts.whole, pages, sayCount(this.rows, "row", "rows"));
+    /** The same of the coding of a page.
+     * @param {number} page */
+    unseenOf(page) {
+        return /** @type {Record<number, string>} */ (TEXTS.findings.unseen)[this.form(page)?.coding ?? 0] ?? "";
     }
 
     /** The report as text. */
@@ -450,7 +495,7 @@ class Fax extends Known {
             return refused ? faultLine(refused.fault, refused.name) : this.form(page)?.line(page) ?? "";
         });
         lines.push(this.end ? faultLine(this.end.fault, this.end.name) : "end", "");
-        const unseen = this.lost.size ? `\n${TEXTS.findings.unseen}` : "";
+        const unseen = this.unseen().map((text) => `\n${text}`).join("");
         const said = `${this.file.name}\n${this.verdict()}${unseen}\n${TEXTS.findings.fromZero}`;
         const head = `${said}\n\n${lines.splice(0).join("\n")}\n`;
         const notes = [...this.notes].sort(([one], [other]) => one - other).map(([page, all]) => all.map(

@@ -10,7 +10,8 @@ class App {
     /** So many files are read at once, and so many that are not shown keep a worker. */
     static READERS = 3;
     static WORKERS = 4;
-    static MOST_FINDINGS = 200;
+    /** So many milliseconds what was done is shown. */
+    static SEEN = 5000;
     /** As in faxpages.css. */
     static NARROW = "(max-width: 60rem)";
     /** So many letters of a report are shown; all are saved. */
@@ -22,13 +23,20 @@ class App {
         /** @type {Fax | null} */
         this.fax = null;
         this.isDue = false;
+        this.noticed = 0;
         this.makings = new Makings({ said: the("saved"), submit: the("save-make"), cancel: the("save-cancel"),
             progress: the("save-progress") }, () => this.changed(), (text) => this.announce(text));
         /** What was said last of a file that is read. */
         this.settled = "";
-        this.found = "";
+        this.files = new Files({ show: (fax) => this.show(fax), closeAll: () => this.closeAll(),
+            saveAll: () => this.saveAll() });
+        this.findings = new Findings((page, row) => this.goToFinding(page, row));
+        /** Which reading of bare data the form shows. */
+        this.asked = "";
         this.view = new View(the("view"), (page) => this.follow(page));
-        this.hands = new Hands(this.view);
+        this.printing = new Printing(this.view, { box: the("printed"), said: the("printing"),
+            cancel: the("print-cancel") }, (text) => this.announce(text));
+        this.hands = new Hands(this.view, (pages) => this.goTo(this.page + pages));
         this.thumbs = new Thumbs(the("thumbs"), the("thumbs-all"), (page) => this.goTo(page));
         App.fillTexts();
         this.listen();
@@ -43,6 +51,7 @@ class App {
         document.querySelectorAll("[data-text]").forEach((element) => {
             element.textContent = texts[/** @type {HTMLElement} */ (element).dataset.text ?? ""];
         });
+        the("print-pages").placeholder = TEXTS.printing.all;
         document.querySelectorAll("[data-label]").forEach((element) => {
             const label = texts[/** @type {HTMLElement} */ (element).dataset.label ?? ""];
             element.setAttribute("aria-label", label);
@@ -68,6 +77,7 @@ class App {
         on("full", () => this.fill());
         on("copy", () => this.copy());
         on("print", () => this.print());
+        on("marks", () => this.toggleMarks());
         on("damaged", () => this.nextDamaged());
         on("stop", () => this.fax?.stop());
         on("notes", () => this.lookForNotes());
@@ -75,11 +85,13 @@ class App {
         on("again", () => this.fax?.read());
         on("close", () => this.close());
         the("report").addEventListener("toggle", () => this.renderReport());
-        the("page").addEventListener("change", () => this.goTo(Number(the("page").value) - 1));
-        the("findings").addEventListener("click", (/** @type {Event} */ event) => {
-            const button = /** @type {HTMLElement} */ (event.target).closest("button");
-            if (button) {
-                this.goTo(Number(button.dataset.page), Number(button.dataset.row));
+        the("page").addEventListener("change", () => {
+            this.goTo(Number(the("page").value) - 1);
+            the("page").value = sayPage(this.page);
+        });
+        the("print-pages").addEventListener("keydown", (/** @type {KeyboardEvent} */ event) => {
+            if (event.key === "Enter") {
+                this.print();
             }
         });
         for (const [id, does] of /** @type {[string, () => void][]} */ (
@@ -160,8 +172,8 @@ class App {
      * @param {Fax | null} fax */
     show(fax) {
         this.fax = fax;
-        this.found = "";
         the("bare-said").textContent = "";
+        the("print-pages").value = "";
         this.render();
         this.changed();
     }
@@ -179,6 +191,14 @@ class App {
         }
     }
 
+    closeAll() {
+        const { faxes } = this;
+        this.faxes = [];
+        faxes.forEach((fax) => fax.close());
+        this.show(null);
+        this.announce(say(TEXTS.announce.closed, sayCount(faxes.length, "file", "files")));
+    }
+
     /** The page that is shown: a file that was read anew may have fewer than before. */
     get page() {
         const { fax } = this;
@@ -188,6 +208,17 @@ class App {
     /** @param {string} text */
     announce(text) {
         the("said").textContent = text;
+    }
+
+    /** Says what was done aloud, and shows it for a while.
+     * @param {string} text */
+    notify(text) {
+        this.announce(text);
+        the("seen").textContent = text;
+        clearTimeout(this.noticed);
+        this.noticed = setTimeout(() => {
+            the("seen").textContent = "";
+        }, App.SEEN);
     }
 
     /** Goes to a page, and to a row of it.
@@ -204,13 +235,9 @@ class App {
             this.view.toTop();
         } else {
             this.view.goTo(row);
-            if (matchMedia(App.NARROW).matches) {
-                the("view-part").scrollIntoView();
-            }
         }
-        if (hasMoved) {
-            const state = /** @type {Fax} */ (this.fax).stateOf(wanted);
-            this.announce(say(TEXTS.announce.page, sayPage(wanted), TEXTS.pages[state]));
+        if (hasMoved && this.fax) {
+            this.announce(say(TEXTS.announce.page, sayPage(wanted), this.fax.sayState(wanted)));
         }
     }
 
@@ -248,10 +275,13 @@ class App {
         the("welcome").hidden = Boolean(fax);
         the("fax").hidden = !fax;
         document.title = fax ? `${sayName(fax.file.name)}: ${TEXTS.title}` : TEXTS.title;
-        this.renderFiles();
+        this.files.render(this.faxes, fax);
         if (fax) {
             this.renderAbout(fax);
-            this.renderFindings(fax);
+            if (this.findings.show(fax)) {
+                this.view.mark();
+                this.renderReport();
+            }
             this.renderPage(fax);
         }
         this.thumbs.show(fax, this.page);
@@ -270,45 +300,6 @@ class App {
         this.settled = fax?.isBusy() ? "" : key;
     }
 
-    renderFiles() {
-        const { faxes } = this;
-        the("files").hidden = faxes.length < 2;
-        const buttons = faxes.map((fax) => {
-            const button = the(`file-${fax.number}`) ?? this.fileButton(fax);
-            button.className = App.lookOf(fax);
-            const state = `, ${TEXTS.looks[App.lookOf(fax)]}`;
-            if (button.lastChild.textContent !== state) {
-                button.lastChild.textContent = state;
-            }
-            button.setAttribute("aria-pressed", String(fax === this.fax));
-            return button;
-        });
-        if (buttons.length !== the("files").childElementCount || buttons.some((button) => !button.isConnected)) {
-            the("files").replaceChildren(...buttons);
-        }
-    }
-
-    /** What a file looks like in the list.
-     * @param {Fax} fax @returns {"failed" | "busy" | "other" | "whole" | "damaged"} */
-    static lookOf(fax) {
-        return fax.failure ? "failed" : fax.isBusy() ? "busy" : fax.otherKind() ? "other"
-            : fax.isWhole() ? "whole" : "damaged";
-    }
-
-    /** @param {Fax} fax */
-    fileButton(fax) {
-        const button = document.createElement("button");
-        button.type = "button";
-        button.id = `file-${fax.number}`;
-        const name = document.createElement("bdi");
-        const state = document.createElement("span");
-        name.textContent = sayName(fax.file.name);
-        state.className = "unseen";
-        button.append(name, state);
-        button.addEventListener("click", () => this.show(fax));
-        return button;
-    }
-
     /** @param {Fax} fax */
     renderAbout(fax) {
         const put = (/** @type {string} */ id, /** @type {string} */ text) => {
@@ -319,8 +310,7 @@ class App {
         put("name", sayName(fax.file.name));
         put("verdict", fax.verdict());
         const isReading = fax.isBusy() && fax.state !== "waits";
-        const state = fax.failure || fax.state !== "done" || fax.otherKind() ? "left"
-            : fax.isWhole() ? "whole" : "damaged";
+        const state = fax.failure || fax.state !== "done" || fax.otherKind() ? "left" : fax.look();
         the("verdict").className = isReading ? "busy" : state;
         the("progress").hidden = !isReading;
         if (isReading && fax.state === "reads" && fax.pages > 0) {
@@ -332,32 +322,64 @@ class App {
         the("stop").hidden = !isReading;
         the("notes").hidden = !fax.isLong;
         the("again").hidden = !fax.failure && fax.state !== "left";
-        the("save").hidden = fax.pages === 0 || fax.isBusy();
-        the("print").hidden = the("save").hidden;
-        the("damaged").hidden = this.faxes.length < 2;
-        // Whoever knows that these are bare fax data says so.
-        const mayBeBare = fax.state === "done" && fax.pages === 0 && fax.end && !["pdf", "empty"].includes(
-            fax.end.kind?.name ?? "") && ["ByteOrder", "ShortHeader", "Magic"].includes(fax.end.name);
-        const isBare = fax.told?.kind === "bare" || Boolean(mayBeBare && fax.isBare);
-        the("bare").hidden = !isBare;
-        the("bare-open").hidden = isBare || !mayBeBare;
+        the("damaged").hidden = !this.faxes.some((it) => it !== fax && Files.isLossy(it));
+        this.renderOffers(fax);
+        this.renderBare(fax);
     }
 
-    /** @param {Fax} fax */
-    renderFindings(fax) {
-        const count = Math.min(fax.refused.size + fax.lost.size, fax.isBusy() ? App.MOST_FINDINGS : Infinity);
-        const key = [fax.number, fax.reading, count, fax.notes.size, fax.state, Boolean(fax.end)].join(" ");
-        if (key === this.found) {
-            return;
+    /** Offers what can be done, and nothing else.
+     * @param {Fax} fax */
+    renderOffers(fax) {
+        const isReady = !fax.isBusy() && fax.listed > 0;
+        const hasWhole = fax.listed > fax.lost.size;
+        const { kind } = the("save").elements;
+        the("save").hidden = the("printer").hidden = !isReady;
+        the("marks").hidden = fax.lost.size === 0;
+        the("copy").disabled = !fax.form(this.page);
+        the("copy").hidden = !("ClipboardItem" in window);
+        the("full").hidden = !document.fullscreenEnabled;
+        for (const option of kind.options) {
+            option.disabled = /^(tiff.|pbm)$/.test(option.value) && !hasWhole;
         }
-        this.found = key;
-        const { found, all } = fax.findings(App.MOST_FINDINGS);
-        the("findings-part").hidden = found.length === 0 && !fax.isLong;
-        the("findings").replaceChildren(...found.map((finding) => this.findingItem(finding)));
-        the("findings-more").textContent = [all > found.length ? say(TEXTS.findings.more, all - found.length) : "",
-            fax.lost.size ? TEXTS.findings.unseen : "", fax.isLong ? TEXTS.findings.unchecked : ""].join(" ").trim();
-        this.view.mark();
-        this.renderReport();
+        if (kind.selectedOptions[0]?.disabled) {
+            kind.value = "pdf";
+        }
+    }
+
+    /** Says how bare data are read, and asks for that where they are not read as a fax.
+     * @param {Fax} fax */
+    renderBare(fax) {
+        const { coded, told } = fax;
+        const isTold = told?.kind === "bare" && coded !== null;
+        const isUnknown = fax.state === "done" && fax.pages === 0 && fax.file.size > 0 &&
+            (fax.end?.kind?.name ?? "text") === "text";
+        const mayBeBare = isUnknown && ["ByteOrder", "ShortHeader", "Magic"].includes(fax.end?.name);
+        const isAsked = isTold || Boolean(mayBeBare && fax.isBare);
+        the("taken").textContent = !isTold || told.rows === 0 ? "" : fax.isGuessed
+            ? say(TEXTS.bare.guessed, TEXTS.codings[coded.coding], coded.width, TEXTS.page.bare)
+            : say(TEXTS.bare.said, TEXTS.codings[coded.coding], coded.width);
+        the("bare-part").hidden = !isAsked;
+        the("bare-open").hidden = isAsked || !mayBeBare;
+        const key = `${fax.number} ${fax.reading} ${isTold}`;
+        if (isAsked && this.asked !== key) {
+            this.asked = key;
+            the("bare-part").open ||= !isTold || told.rows === 0;
+            this.fillBare(coded);
+        }
+    }
+
+    /** Fills the form in with how data are read.
+     * @param {Bare | null} coded */
+    fillBare(coded) {
+        const { elements } = the("bare");
+        if (coded) {
+            for (const name of /** @type {const} */ (["width", "rows", "coding", "order"])) {
+                elements[name].value = String(coded[name]);
+            }
+            elements.eols.checked = coded.hasEols;
+            elements.aligned.checked = coded.isAligned;
+            elements.fine.value = coded.isFine === false ? "0" : "1";
+        }
     }
 
     /** The report as text, where it is asked for: as much of it as can be looked through. */
@@ -365,22 +387,6 @@ class App {
         const text = this.fax && the("report").open ? this.fax.text() : "";
         the("report-text").textContent = text.length > App.MOST_REPORT
             ? `${text.slice(0, App.MOST_REPORT)}\n${TEXTS.findings.reportGoesOn}` : text;
-    }
-
-    /** @param {Finding} finding */
-    findingItem({ page, row, head, name, tag, kind }) {
-        const item = document.createElement("li");
-        const button = document.createElement("button");
-        const [means, does] = kind === "note" ? sayOfNote(name) : sayOfFault(name, tag);
-        item.className = kind;
-        button.type = "button";
-        button.dataset.page = String(page);
-        button.dataset.row = String(row);
-        button.textContent = `${head}: ${name}${tag ? ` ${tag}` : ""}`;
-        const text = document.createElement("p");
-        text.textContent = `${means} ${does}`.trim();
-        item.append(button, text);
-        return item;
     }
 
     /** @param {Fax} fax */
@@ -408,6 +414,7 @@ class App {
         if (this.fax) {
             this.fax.isBare = true;
             this.render();
+            the("bare-part").open = true;
             the("bare").elements.coding.focus();
         }
     }
@@ -423,7 +430,7 @@ class App {
         the("bare-said").textContent = isRight ? "" : TEXTS.bare.refused;
         if (isRight && this.fax) {
             this.fax.coded = bare;
-            this.found = "";
+            this.fax.isGuessed = false;
             this.fax.at = 0;
             this.fax.read();
         }
@@ -431,7 +438,7 @@ class App {
 
     save() {
         if (this.fax) {
-            this.makings.make(this.fax, the("save").elements.kind.value, this.page, this.view.turns);
+            this.makings.make(this.fax, the("save").elements.kind.value, this.page);
         }
     }
 
@@ -445,40 +452,74 @@ class App {
         try {
             const picture = fax.ask("save", { kind: "png", pages: [page], coding: 0, turns: 0 });
             await navigator.clipboard.write([new ClipboardItem({ "image/png": picture })]);
-            this.announce(say(texts.copied, sayPage(page)));
+            this.notify(say(texts.copied, sayPage(page)));
         } catch (error) {
-            this.announce(say(texts.failed, sayPage(page), /** @type {Error} */ (error).message));
+            this.notify(say(texts.failed, sayPage(page), /** @type {Error} */ (error).message));
         }
     }
 
     /** Shows the page on the whole screen, and back. */
     fill() {
         (document.fullscreenElement ? document.exitFullscreen() : the("view-part").requestFullscreen()).catch(
-            (/** @type {Error} */ error) => this.announce(error.message));
+            (/** @type {Error} */ error) => this.notify(error.message));
     }
 
     /** Goes to the next file that is damaged, and from the last to the first. */
     nextDamaged() {
         const at = this.fax ? this.faxes.indexOf(this.fax) + 1 : 0;
-        const next = [...this.faxes.slice(at), ...this.faxes.slice(0, at)].find((it) => App.lookOf(it) === "damaged");
+        const next = [...this.faxes.slice(at), ...this.faxes.slice(0, at)].find(Files.isLossy);
         if (next) {
             this.show(next);
             this.announce(`${sayName(next.file.name)}: ${next.verdict()}`);
         } else {
-            this.announce(TEXTS.announce.noneDamaged);
+            this.notify(TEXTS.announce.noneDamaged);
         }
     }
 
-    /** Makes the PDF, and has it be opened: what shows PDFs prints them, a page a sheet, in their size. */
+    /** Prints all pages, or those that are named beside the button. */
     print() {
-        if (this.fax) {
-            this.makings.make(this.fax, "pdf", this.page, this.view.turns, true);
+        const { fax } = this;
+        if (!fax || fax.isBusy() || fax.listed === 0) {
+            return;
         }
+        const pages = Printing.chosen(the("print-pages").value, fax.shownPages());
+        if (pages) {
+            this.printing.print(fax, pages);
+        } else {
+            this.printing.tell(say(TEXTS.printing.refused, fax.pages));
+            this.announce(say(TEXTS.printing.refused, fax.pages));
+        }
+    }
+
+    /** Shows the marks beside the page, or hides them. */
+    toggleMarks() {
+        this.view.setMarks(!this.view.hasMarks);
+        the("marks").setAttribute("aria-pressed", String(this.view.hasMarks));
+    }
+
+    /** Saves each file as a PDF, one after another. */
+    async saveAll() {
+        const faxes = this.faxes.filter((fax) => fax.listed > 0 && !fax.isBusy());
+        the("save-all").disabled = true;
+        let done = 0;
+        for (const [at, fax] of faxes.entries()) {
+            the("all-said").textContent = say(TEXTS.saving.all, at + 1, faxes.length, sayName(fax.file.name));
+            await this.makings.make(fax, "pdf", 0);
+            done += fax.making?.state === "ready" ? 1 : 0;
+        }
+        the("all-said").textContent = say(TEXTS.saving.allDone, done, faxes.length);
+        this.announce(the("all-said").textContent);
+        this.changed();
     }
 
     /** @param {KeyboardEvent} event */
     key(event) {
         const target = /** @type {HTMLElement} */ (event.target);
+        if ((event.ctrlKey || event.metaKey) && !event.altKey && !event.shiftKey && event.key === "p" && this.fax) {
+            event.preventDefault();
+            this.print();
+            return;
+        }
         if (event.ctrlKey || event.metaKey || event.altKey || target.closest("input, select, textarea")) {
             return;
         }
@@ -519,20 +560,34 @@ class App {
             "+": () => view.zoomBy(1), "=": () => view.zoomBy(1), "-": () => view.zoomBy(-1),
             0: () => view.setZoom("whole"), w: () => view.setZoom("wide"), 1: () => view.setZoom(1 / devicePixelRatio),
             r: () => view.turn(1), l: () => view.turn(-1), f: () => this.nextFinding(), d: () => this.nextDamaged(),
-            c: () => this.copy(), s: () => this.fill(),
+            c: () => this.copy(), s: () => this.fill(), m: () => this.toggleMarks(),
         };
     }
 
     /** Goes to the next place where something is wrong, and from the last to the first. */
     nextFinding() {
-        const { found } = /** @type {Fax} */ (this.fax).findings(App.MOST_FINDINGS);
-        const after = found.findIndex(({ page, row }) => this.last ? page > this.last.page ||
-            (page === this.last.page && row > this.last.row) : true);
+        const fax = /** @type {Fax} */ (this.fax);
+        const { found } = fax.findings(Findings.MOST);
+        const { last } = fax;
+        const after = found.findIndex(({ page, row }) => !last || page > last.page ||
+            (page === last.page && row > last.row));
         const next = found[Math.max(0, after)];
         if (next) {
-            this.last = { page: next.page, row: next.row };
+            fax.last = { page: next.page, row: next.row };
             this.goTo(next.page, next.row);
         }
+    }
+
+    /** Goes to what is chosen in the list of what is wrong; on a narrow screen that list stands before the page.
+     * @param {number} page @param {number} row */
+    goToFinding(page, row) {
+        if (matchMedia(App.NARROW).matches) {
+            the("more").open = false;
+        }
+        if (this.fax) {
+            this.fax.last = { page, row };
+        }
+        this.goTo(page, row);
     }
 }
 

@@ -8,9 +8,17 @@ class Hands {
     static LINE = 0.1;
     static SCREEN = 0.9;
 
-    /** @param {View} pages */
-    constructor(pages) {
+    /** A finger that goes so far across, and less down, in so many milliseconds, turns the page. */
+    static SWIPE = 60;
+    static SOON = 700;
+
+    /** @param {View} pages @param {(pages: number) => void} turn */
+    constructor(pages, turn) {
         this.pages = pages;
+        this.turn = turn;
+        /** Where one finger began, and when.
+         * @type {{ x: number, y: number, at: number, left: number } | null} */
+        this.begun = null;
         const { view } = pages;
         /** Where fingers, or the mouse, are.
          * @type {Map<number, { x: number, y: number }>} */
@@ -18,6 +26,8 @@ class Hands {
         view.addEventListener("wheel", (event) => this.wheel(event), { passive: false });
         view.addEventListener("pointerdown", (event) => this.hold(event));
         view.addEventListener("pointermove", (event) => this.move(event));
+        view.addEventListener("touchstart", (event) => this.touch(event), { passive: true });
+        view.addEventListener("touchend", (event) => this.swipe(event), { passive: true });
         for (const name of /** @type {("pointerup" | "pointercancel")[]} */ (["pointerup", "pointercancel"])) {
             view.addEventListener(name, (event) => this.let(event));
         }
@@ -79,6 +89,42 @@ class Hands {
         this.pages.view.classList.remove("held");
     }
 
+    /** @param {TouchEvent} event */
+    touch({ touches, timeStamp }) {
+        const [one] = touches;
+        this.begun = touches.length === 1
+            ? { x: one.clientX, y: one.clientY, at: timeStamp, left: this.pages.view.scrollLeft } : null;
+    }
+
+    /** A swipe to the left goes to the next page, one to the right to the page before, where it scrolls nothing.
+     * @param {TouchEvent} event */
+    swipe({ changedTouches, timeStamp }) {
+        const { begun } = this;
+        const [one] = changedTouches;
+        this.begun = null;
+        if (!begun || !one || timeStamp - begun.at > Hands.SOON || this.pages.view.scrollLeft !== begun.left) {
+            return;
+        }
+        const [across, down] = [one.clientX - begun.x, one.clientY - begun.y];
+        if (Math.abs(across) >= Hands.SWIPE && Math.abs(across) > 2 * Math.abs(down)) {
+            this.turn(across < 0 ? 1 : -1);
+        }
+    }
+
+    /** Whether the page is no wider than what is seen of it. */
+    isNarrow() {
+        const { view } = this.pages;
+        return view.scrollWidth <= view.clientWidth;
+    }
+
+    /** The keys that go to the next page, and to the one before, where nothing is to be scrolled.
+     * @param {string} key @param {boolean} isBack */
+    turned(key, isBack) {
+        const across = { ArrowRight: 1, ArrowLeft: -1 }[key] ?? 0;
+        const down = { PageDown: 1, PageUp: -1, " ": isBack ? -1 : 1 }[key] ?? 0;
+        return across && this.isNarrow() ? across : this.pages.zoom === "whole" ? down : 0;
+    }
+
     /** What keys scroll, and where to: across, and down.
      * @type {Record<string, [number, number]>} */
     static KEYS = {
@@ -86,10 +132,15 @@ class Hands {
         PageDown: [0, Hands.SCREEN], PageUp: [0, -Hands.SCREEN], " ": [0, Hands.SCREEN],
     };
 
-    /** Scrolls by a key, if it is one that scrolls.
+    /** Scrolls by a key, or turns the page, if it is one that does.
      * @param {string} key @param {boolean} isBack */
     key(key, isBack) {
         const { view } = this.pages;
+        const pages = this.turned(key, isBack);
+        if (pages) {
+            this.turn(pages);
+            return true;
+        }
         const [across, down] = Hands.KEYS[key] ?? [0, 0];
         const times = isBack && key === " " ? -1 : 1;
         view.scrollBy(across * view.clientWidth, times * down * view.clientHeight);

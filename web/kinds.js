@@ -18,6 +18,9 @@ class Kinds {
         1: "no compression", 5: "LZW", 6: "JPEG", 7: "JPEG", 8: "Deflate", 32773: "PackBits", 32946: "Deflate",
         34661: "JBIG", 34712: "JPEG 2000", 34925: "LZMA", 50000: "Zstandard", 50001: "WebP",
     };
+    /** How mails begin. */
+    static MAIL = /^(From |(Received|Return-Path|Delivered-To|From|To|Date|Subject|Message-ID|MIME-Version): )/i;
+    static ROWS = 257;
     static BITS = 258;
     static COMPRESSION = 259;
     static STRIPS = 273;
@@ -45,9 +48,21 @@ class Kinds {
     ofFile(fault) {
         const name = this.library.length === 0 ? "empty"
             : Kinds.HEADS.find(([head]) => this.head(head.length) === head)?.[1] ??
-                (/^[\t\n\r -~\x80-\xff]+$/.test(this.head(4096)) ? "text" : "");
+                (/^[\t\n\r -~\x80-\xff]+$/.test(this.head(4096)) ? this.ofText() : "");
         const isOther = ["ShortHeader", "ByteOrder", "Magic", "UnknownInput"].includes(fault);
         return isOther && name ? { name, value: "" } : null;
+    }
+
+    /** What a text is: a mail has two of its fields at least, each on a line. */
+    ofText() {
+        const lines = this.head(4096).split(/\r?\n/).slice(0, 40);
+        return Kinds.MAIL.test(lines[0]) && lines.filter((line) => Kinds.MAIL.test(line)).length > 1 ? "mail" : "text";
+    }
+
+    /** Whether a page is refused since it has no rows, as the last one of a call that was cut.
+     * @param {Fault} fault @param {string} name */
+    isEmpty(fault, name) {
+        return name === "OutOfLimits" && fault.tag === Kinds.ROWS && this.valueOf(fault.page, Kinds.ROWS) === 0;
     }
 
     /** What a page is that is refused, if it is another kind of picture.

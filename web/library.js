@@ -16,6 +16,8 @@ class Library {
     static NO_ROOM = 5;
     static TOO_LARGE = 8;
     static DATA_END = 9;
+    /** The number of a fault: the data end before their rows do. */
+    static DATA_ENDS = 101;
     static NO_STRIP = 4294967295;
     static RUNS = 65536;
     static ROWS = 4096;
@@ -216,6 +218,44 @@ class Library {
         }
         const count = this.numbers(this.told, 2)[1];
         return new Left(this, form, raster, this.numbers(lost, 3 * count).slice());
+    }
+
+    /** What is left of a strip: its rows in memory that has a name, how many they are, how many of them are lost, the
+     * stretches of these, and the fault of the last row of a strip of unknown height, or 0. Rows that have no room are
+     * counted alone.
+     * @param {number} strip @param {number} length @param {number[]} form of a strip */
+    salvageStrip(strip, length, form) {
+        const stride = (form[0] + 7) >> 3;
+        const at = this.room("strip form", 20);
+        const call = (/** @type {number} */ rows) => {
+            const [room, most] = [rows * stride, (rows + 1) >> 1];
+            const [raster, lost] = [this.room("left", Math.max(1, room)), this.room("lost", 12 * Math.max(1, most))];
+            this.numbers(at, 5).set(form);
+            const status = this.calls.faxpages_salvage_strip(
+                strip, length, at, raster, room, stride, lost, most, this.told);
+            return { told: this.toldOf(status), used: this.numbers(this.told, 2)[1], raster, lost };
+        };
+        const all = form[1] || Library.counted(call(0).told);
+        if (all * stride > Library.MOST_BYTES) {
+            return { all, lost: 0, raster: 0, stretches: new Uint32Array(0), fault: 0 };
+        }
+        const { told, used, raster, lost } = call(all);
+        if (![Library.DONE, Library.END, Library.DATA_END, Library.FAULT].includes(told.status)) {
+            throw Library.refusal(told.status);
+        }
+        const stretches = this.numbers(lost, 3 * used).slice();
+        const count = stretches.reduce((sum, number, index) => sum + (index % 3 === 1 ? number : 0), 0);
+        const fault = told.status === Library.FAULT ? told.fault.number : 0;
+        return { all, lost: count, raster, stretches, fault };
+    }
+
+    /** How many rows a strip has for which there was no room.
+     * @param {Told} told */
+    static counted(told) {
+        if (told.status !== Library.NO_ROOM) {
+            throw Library.refusal(told.status);
+        }
+        return told.row;
     }
 
     /** The name of a fault, or of a note. Where a later library has none, a fault has its number in its name.

@@ -10,8 +10,6 @@ class Making {
         /** @type {"works" | "ready" | "failed"} */
         this.state = "works";
         this.percent = 0;
-        /** Whether it is opened to be printed, and not saved. */
-        this.isToPrint = false;
         this.said = say(TEXTS.saving.works, sayName(name), 0);
         /** @type {Blob | null} */
         this.blob = null;
@@ -71,14 +69,13 @@ class Makings {
     }
 
     /** Makes a file of a fax, and offers it once it was read again and compared.
-     * @param {Fax} fax @param {string} kind @param {number} page @param {number} turns @param {boolean} [isToPrint] */
-    async make(fax, kind, page, turns, isToPrint = false) {
+     * @param {Fax} fax @param {string} kind @param {number} page */
+    async make(fax, kind, page) {
         if (this.working) {
             return;
         }
         const pages = kind === "png" ? [page] : kind === "pdf" ? fax.shownPages() : fax.wholePages();
         const making = new Making(Makings.nameOf(fax, kind, page), this.changed);
-        making.isToPrint = isToPrint;
         fax.setMaking(making);
         if (kind !== "text" && (pages.length === 0 || !fax.form(pages[0]))) {
             making.fail(TEXTS.saving.nothing);
@@ -87,12 +84,14 @@ class Makings {
         this.working = fax;
         this.changed();
         try {
+            const turns = pages.map((it) => fax.turnsOf(it));
             const words = { kind: kind.replace(/\d/, ""), coding: Number(kind.slice(-1)) || 0, pages, turns };
             const tell = (/** @type {number} */ done, /** @type {number} */ all) => making.tell(done, all);
             const blob = kind === "text" ? await fax.textBlob() : await fax.ask("save", words, tell);
             // What is made of an earlier reading, or of a file that was closed, is nobody's.
             if (fax.making === making) {
                 making.end(blob, Makings.saidOf(fax, kind, sayName(making.name), pages.length));
+                Makings.link(making, "").click();
             }
         } catch (error) {
             const isStopped = error instanceof Stopped || error instanceof Closed;
@@ -122,6 +121,17 @@ class Makings {
         return base + (endings[kind] ?? `.${kind}`);
     }
 
+    /** What saves a file that was made.
+     * @param {Making} making @param {string} text */
+    static link(making, text) {
+        const link = document.createElement("a");
+        link.className = "button";
+        link.href = making.place;
+        link.download = making.name;
+        link.textContent = text;
+        return link;
+    }
+
     /** Ends what makes a file. The worker is started again where something else is asked of it. */
     cancel() {
         this.working?.life.end();
@@ -143,17 +153,7 @@ class Makings {
                 this.announce(making.said);
             }
             if (making?.place) {
-                const link = document.createElement("a");
-                link.className = "button";
-                link.href = making.place;
-                link.textContent = say(making.isToPrint ? TEXTS.saving.print : TEXTS.saving.link, sayName(making.name));
-                if (making.isToPrint) {
-                    link.target = "_blank";
-                } else {
-                    link.download = making.name;
-                }
-                said.append(" ", link);
-                link.focus();
+                said.append(" ", Makings.link(making, say(TEXTS.saving.link, sayName(making.name))));
             }
         }
     }

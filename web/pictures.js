@@ -7,9 +7,7 @@
 class Pdf {
     static GREY = 0.66;
 
-    /** @param {number} turns quarters, by which a viewer turns each page */
-    constructor(turns) {
-        this.turns = turns;
+    constructor() {
         /** The last object that was written; 1 and 2 are written at the end. */
         this.last = 2;
         /** @type {BlobPart[]} */
@@ -51,15 +49,16 @@ class Pdf {
         return form.unit === 1 ? (pels / inUnit) * (form.across / 204) : pels / (inUnit * (form.unit === 3 ? 2.54 : 1));
     }
 
-    /** @param {Form} form @param {Blob} data @param {Blob | null} lost of a raster whose lost rows are black */
-    addPage(form, data, lost) {
+    /** @param {Form} form @param {number} turns quarters, by which a viewer turns the page @param {Blob} data
+     * @param {Blob | null} lost of a raster whose lost rows are black */
+    addPage(form, turns, data, lost) {
         const number = this.last + 1;
         const [across, down] = [Pdf.inches(form, form.width, form.across), Pdf.inches(form, form.rows, form.down)]
             .map((inches) => (72 * inches).toFixed(3));
         const drawn = new Blob([`q ${across} 0 0 ${down} 0 0 cm `, lost ? `${Pdf.GREY} g /L Do 0 g ` : "", "/I Do Q"]);
         this.pages.push(number);
         this.object(number, `<< /Type /Page /Parent 2 0 R /MediaBox [0 0 ${across} ${down}] ` +
-            `${this.turns ? `/Rotate ${90 * this.turns} ` : ""}/Contents ${number + 1} 0 R /Resources << /XObject << ` +
+            `${turns ? `/Rotate ${90 * turns} ` : ""}/Contents ${number + 1} 0 R /Resources << /XObject << ` +
             `/I ${number + 2} 0 R ${lost ? `/L ${number + 3} 0 R ` : ""}>> >> >>`);
         this.object(number + 1, `<< /Length ${drawn.size} >>`, drawn);
         this.image(number + 2, form, data, lost !== null);
@@ -117,7 +116,7 @@ class Png {
         if (!form || form.width * across * form.rows * down > Png.MOST_PELS) {
             throw new Error(`page ${page + 1} is too large for a picture`);
         }
-        const bits = this.drawing.salvaging.of(page, form) ? 2 : 1;
+        const bits = this.drawing.salvaging.isLossy(page, form) ? 2 : 1;
         const packed = await Png.through(Png.stream("Compression"), this.lines(page, form, bits, across, down));
         await this.compare(packed, page, form, bits, across, down);
         const head = new DataView(new ArrayBuffer(13));

@@ -24,6 +24,8 @@ class Reading {
         this.rows = 0;
         this.pages = 0;
         this.told = 0;
+        /** Whether some page was told to have lost rows. */
+        this.hasLost = false;
     }
 
     /** Whether a fault is of one page's fields: the pages after it can be read.
@@ -43,7 +45,9 @@ class Reading {
             }
             if (told.status === Library.FAULT && Reading.isOfFields(told.fault) && told.fault.page >= next) {
                 const name = this.nameOf(told.fault);
-                this.send({ event: "refused", fault: told.fault, name, kind: this.kinds.ofPage(told.fault, name) });
+                const { kinds } = this;
+                this.send({ event: "refused", fault: told.fault, name, kind: kinds.ofPage(told.fault, name),
+                    isEmpty: kinds.isEmpty(told.fault, name) });
                 next = told.fault.page + 1;
             } else if (told.status === Library.FAULT && told.fault.page >= next) {
                 const name = this.nameOf(told.fault);
@@ -78,6 +82,7 @@ class Reading {
             this.most = Reading.nextMost(this.most, slice);
             const page = told.count > 0 ? this.library.row(told.count - 1).page : cursor.page;
             if (told.status === Library.FAULT ? !this.skip(cursor, told.fault) : !Reading.goesOn(told.status)) {
+                this.tellGiven();
                 this.tell(page, true, told.status);
                 return took;
             }
@@ -121,7 +126,10 @@ class Reading {
     /** Tells the rows of a page that are lost. Those before its first fault are counted already.
      * @param {Fault} fault @param {Form} form */
     tellLost(fault, form) {
-        this.salvaging.faults.set(fault.page, fault);
+        this.hasLost = true;
+        if (!this.salvaging.faults.get(fault.page)) {
+            this.salvaging.faults.set(fault.page, fault);
+        }
         const { found, stretches } = /** @type {Left} */ (this.salvaging.of(fault.page, form));
         this.rows += found - fault.row;
         /** @type {Record<number, string>} */
@@ -129,7 +137,17 @@ class Reading {
         for (let at = 2; at < stretches.length; at += 3) {
             names[stretches[at]] ??= this.library.name("fault", stretches[at]);
         }
-        this.send({ event: "lost", page: fault.page, stretches, names });
+        this.send({ event: "lost", page: fault.page, stretches, names, name: this.nameOf(fault) });
+    }
+
+    /** Tells what is lost of a page of bare data that can be read to its end, where more has to follow. */
+    tellGiven() {
+        const fault = this.salvaging.faults.get(0);
+        const form = fault && !this.hasLost ? this.library.form(0) : null;
+        if (fault && form) {
+            this.rows = fault.row;
+            this.tellLost(fault, form);
+        }
     }
 
     /** Tells how far it is, ten times a second at most.

@@ -63,6 +63,14 @@ class Salvaging {
         this.last = null;
     }
 
+    /** Takes what is left of the first page as it was found before, as of bare data.
+     * @param {Left} left */
+    give(left) {
+        const { stretches } = left;
+        this.last = { page: 0, left };
+        this.faults.set(0, stretches.length > 0 ? { number: stretches[2], tag: 0, page: 0, row: stretches[0] } : null);
+    }
+
     /** Whether a fault is of rows of a page: of the data of a strip, or of its place.
      * @param {Fault} fault */
     static isOfRows(fault) {
@@ -106,5 +114,12 @@ class Salvaging {
                 : this.library.salvage(page, form) };
         }
         return this.last.left;
+    }
+
+    /** Whether a page has rows that are lost.
+     * @param {number} page @param {Form} form */
+    isLossy(page, form) {
+        const left = this.of(page, form);
+        return left !== null && left.found < form.rows;
     }
 }

@@ -1,5 +1,40 @@
 "use strict";
 
+/** Reads the rows of a page that are all found, one call after another. */
+class Rows {
+    /** @param {Drawing} drawing @param {Cursor} cursor @param {number} page @param {Form} form */
+    constructor({ library, salvaging }, cursor, page, form) {
+        this.library = library;
+        this.cursor = cursor.set(page, 0);
+        this.form = form;
+        /** What is left of a page whose data are cut, though all rows are found. */
+        this.left = salvaging.of(page, form);
+        this.from = 0;
+        this.to = 0;
+    }
+
+    /** Reads rows, as many at most as are asked for, and answers how many; 0 where one is lost.
+     * @param {number} most */
+    next(most) {
+        this.from = this.to;
+        if (this.left) {
+            this.to += this.left.found === this.form.rows ? Math.min(most, Library.ROWS) : 0;
+        } else {
+            const told = this.library.readRows(this.cursor, most);
+            this.to += told.status === Library.FAULT ? 0 : told.count;
+        }
+        return this.to - this.from;
+    }
+
+    /** The packed bytes of a row that was read last.
+     * @param {number} index */
+    bytes(index) {
+        const { stride } = this.form;
+        return this.left ? this.library.bytes(this.left.raster + (this.from + index) * stride, stride)
+            : this.library.row(index).bytes;
+    }
+}
+
 /**
  * Makes files of pages: TIFF and PBM of those that can be read wholly, PDF of all, with lost rows grey. What was made
  * is read again by the library, or unpacked, and compared with the rows of the fax before it is handed out.
@@ -38,13 +73,13 @@ class Saving {
      * @param {number} page @param {Form} form */
     async rasterOf(page, form) {
         const at = this.made.room("raster", form.stride * form.rows);
-        this.cursor.set(page, 0);
+        const rows = new Rows(this.drawing, this.cursor, page, form);
         for (let due = 0; due < form.rows; await this.pause()) {
-            const told = this.library.readRows(this.cursor, form.rows - due);
-            for (let index = 0; index < told.count; index++, due++) {
-                this.made.bytes(at + due * form.stride, form.stride).set(this.library.row(index).bytes);
+            const count = rows.next(form.rows - due);
+            for (let index = 0; index < count; index++, due++) {
+                this.made.bytes(at + due * form.stride, form.stride).set(rows.bytes(index));
             }
-            if (told.count === 0 || told.status === Library.FAULT) {
+            if (count === 0) {
                 throw new Error(`page ${page + 1} cannot be read wholly`);
             }
         }
@@ -103,15 +138,7 @@ class Saving {
         const made = this.made.cursor(0, 0);
         for (const [number, page] of pages.entries()) {
             const form = this.formOf(page);
-            this.cursor.set(page, 0);
-            for (let due = 0; due < form.rows; await this.pause()) {
-                const told = this.library.readRows(this.cursor, form.rows - due);
-                const again = this.made.readRows(made, told.count);
-                if (told.count === 0 || again.count !== told.count || !this.isSame(told.count, number, due)) {
-                    throw new Error(`page ${page + 1} was not written as it is`);
-                }
-                due += told.count;
-            }
+            await this.comparePage(made, number, page, form);
             this.tell(pages.length + number + 1, 2 * pages.length);
         }
         if (this.made.readRows(made, 1).status !== Library.END) {
@@ -119,13 +146,27 @@ class Saving {
         }
     }
 
-    /** Whether rows that were read last by both libraries are the same, and as many of a page from a row on.
-     * @param {number} count @param {number} page @param {number} from */
-    isSame(count, page, from) {
+    /** Compares a page that was made, from a place on, with a page of the fax.
+     * @param {Cursor} made @param {number} number of the page that was made @param {number} page @param {Form} form */
+    async comparePage(made, number, page, form) {
+        const rows = new Rows(this.drawing, this.cursor, page, form);
+        for (let due = 0; due < form.rows; await this.pause()) {
+            const count = rows.next(form.rows - due);
+            const again = this.made.readRows(made, count);
+            if (count === 0 || again.count !== count || !this.isSame(rows, count, number, due)) {
+                throw new Error(`page ${page + 1} was not written as it is`);
+            }
+            due += count;
+        }
+    }
+
+    /** Whether rows that were read last are the same, and as many of a page that was made from a row on.
+     * @param {Rows} rows @param {number} count @param {number} page @param {number} from */
+    isSame(rows, count, page, from) {
         for (let index = 0; index < count; index++) {
             const made = this.made.row(index);
             const isThere = made.page === page && made.row === from + index;
-            if (!isThere || !Saving.isEqual(made.bytes, this.library.row(index).bytes)) {
+            if (!isThere || !Saving.isEqual(made.bytes, rows.bytes(index))) {
                 return false;
             }
         }
@@ -184,29 +225,21 @@ class Saving {
         }
         const { file, length } = this.made;
         [this.made.file, this.made.length] = [converted.at, converted.length];
-        const made = this.made.cursorNamed("again");
-        this.cursor.set(page, 0);
-        for (let due = 0; due < form.rows; await this.pause()) {
-            const told = this.library.readRows(this.cursor, form.rows - due);
-            if (this.made.readRows(made, told.count).count !== told.count || !this.isSame(told.count, 0, due)) {
-                throw new Error(`page ${page + 1} was not written as it is`);
-            }
-            due += told.count;
-        }
+        await this.comparePage(this.made.cursorNamed("again"), 0, page, form);
         [this.made.file, this.made.length] = [file, length];
     }
 
     /** The pages as a PDF, each an image of MMR data, or two masks where rows are lost.
-     * @param {number[]} pages @param {number} turns */
+     * @param {number[]} pages @param {number[]} turns of each, in quarters */
     async pdf(pages, turns) {
-        const pdf = new Pdf(turns);
+        const pdf = new Pdf();
         for (const [done, page] of pages.entries()) {
             const form = this.formOf(page);
-            const isDamaged = this.drawing.salvaging.of(page, form) !== null;
+            const isDamaged = this.drawing.salvaging.isLossy(page, form);
             const raster = isDamaged ? this.rasterLeft(page, form, false) : await this.rasterOf(page, form);
             const data = await this.coded(page, form, raster);
             const lost = isDamaged ? await this.coded(page, form, this.rasterLeft(page, form, true)) : null;
-            pdf.addPage(form, data, lost);
+            pdf.addPage(form, turns[done] ?? 0, data, lost);
             await this.pause();
             this.tell(done + 1, pages.length);
         }

@@ -6,11 +6,10 @@ class Sheet {
     static DOWN = 1024;
     /** So many tiles of the page that is looked at are drawn also where they are out of sight. */
     static MOST_WHOLE = 6;
-    static MOST_MARKS = 200;
-    /** Inches of paper that is shorter than what faxes are sent on, as in faxpages.css. */
-    static SHORT = 10.98;
-    /** Of more marks each says what it is only under the mouse, so that the page can be read. */
-    static MOST_SAID = 2;
+    /** Bars are so high at least, in pels of the screen, and so many; those that are so near to each other are one. */
+    static LEAST_BAR = 2;
+    static MOST_BARS = 1000;
+    static NEAR = 1;
 
     /** @param {View} view @param {Fax} fax @param {number} page @param {Form} form */
     constructor(view, fax, page, form) {
@@ -32,11 +31,10 @@ class Sheet {
     /** Whether it is the page that is looked at; others stand above and below it.
      * @param {boolean} isCurrent */
     dress(isCurrent) {
-        const texts = TEXTS.pages;
         this.element.className = isCurrent ? "sheet current" : "sheet";
         this.element.setAttribute("aria-hidden", String(!isCurrent));
-        this.element.setAttribute("aria-label", say(texts.picture, sayPage(this.page),
-            texts[this.fax.stateOf(this.page)]));
+        this.element.setAttribute("aria-label", say(TEXTS.pages.picture, sayPage(this.page),
+            this.fax.sayState(this.page)));
     }
 
     remove() {
@@ -44,17 +42,22 @@ class Sheet {
         this.element.remove();
     }
 
+    /** By how many quarters the page is turned. */
+    get turns() {
+        return this.fax.turnsOf(this.page);
+    }
+
     /** The size of the page on the screen as it lies, at a scale of 1. */
     natural() {
         const [wide, high] = [this.form.width, this.form.rows * this.form.shape];
-        return this.view.turns % 2 ? [high, wide] : [wide, high];
+        return this.turns % 2 ? [high, wide] : [wide, high];
     }
 
     /** Lays the page out at its scale, as it is turned. */
     lay() {
         this.scale = this.view.scaleOf(this);
         const [wide, high] = this.size();
-        const { turns } = this.view;
+        const { turns } = this;
         const isAcross = turns % 2 === 1;
         this.element.style.width = `${isAcross ? high : wide}px`;
         this.element.style.height = `${isAcross ? wide : high}px`;
@@ -62,26 +65,11 @@ class Sheet {
         this.paper.style.height = `${high}px`;
         this.paper.style.transform = ["none", `translate(${high}px, 0) rotate(90deg)`,
             `translate(${wide}px, ${high}px) rotate(180deg)`, `translate(0, ${wide}px) rotate(270deg)`][turns];
-        this.element.style.setProperty("--print-scale", String(this.printScale()));
-        this.element.style.setProperty("--short-scale", String(this.printScale() * this.shortening()));
         this.paper.classList.toggle("sharp", this.scale * devicePixelRatio >= 1);
         for (const [key, canvas] of this.tiles) {
             this.place(canvas, key);
         }
         this.mark();
-    }
-
-    /** By how much a sheet of paper shows the page larger than the screen: 96 pels of a style are an inch. */
-    printScale() {
-        return (96 * Pdf.inches(this.form, this.form.width, this.form.across)) / this.size()[0];
-    }
-
-    /** By how much a page that is longer than paper of 11 inches is made smaller there, to be on one sheet. */
-    shortening() {
-        const { form } = this;
-        const down = this.view.turns % 2 ? Pdf.inches(form, form.width, form.across)
-            : Pdf.inches(form, form.rows, form.down);
-        return Math.min(1, Sheet.SHORT / down);
     }
 
     /** The size of the page on the screen before it is turned. */
@@ -116,7 +104,7 @@ class Sheet {
         const [x, y, toX, toY] = [
             [left, top, right, bottom], [top, high - right, bottom, high - left],
             [wide - right, high - bottom, wide - left, high - top], [wide - bottom, left, wide - top, right],
-        ][this.view.turns];
+        ][this.turns];
         const pels = (/** @type {number} */ at) => Math.max(0, Math.min(form.width - 1, (at * form.width) / wide));
         const rows = (/** @type {number} */ at) => Math.max(0, Math.min(form.rows - 1, (at * form.rows) / high));
         return [pels(x), rows(y), pels(toX), rows(toY)];
@@ -193,19 +181,59 @@ class Sheet {
         });
     }
 
-    /** Marks the rows where something is wrong. */
+    /** The page as it is drawn now, in one canvas. */
+    picture() {
+        const { form } = this;
+        const picture = document.createElement("canvas");
+        const drawn = [...this.tiles].filter(([, tile]) => tile.dataset.drawn);
+        const [across, down] = (drawn[0]?.[0] ?? "0 0 1 1").split(" ").slice(2).map(Number);
+        picture.width = Math.ceil(form.width / across);
+        picture.height = Math.ceil(form.rows / down);
+        for (const [key, tile] of drawn) {
+            const [column, line] = key.split(" ").map(Number);
+            picture.getContext("2d")?.drawImage(tile, Math.floor((column * Sheet.ACROSS) / across),
+                Math.floor((line * Sheet.DOWN) / down));
+        }
+        return picture;
+    }
+
+    /** Marks the rows that are lost: bars beside the paper, as high as these are, so that they hide nothing. */
     mark() {
-        const high = this.size()[1];
-        const found = this.fax.findingsOf(this.page, Sheet.MOST_MARKS).slice(0, Sheet.MOST_MARKS);
+        const bars = this.view.hasMarks ? this.bars() : [];
         this.paper.querySelectorAll(".mark").forEach((mark) => mark.remove());
-        this.paper.classList.toggle("many", found.length > Sheet.MOST_SAID);
-        this.paper.append(...found.map(({ row, head, name, kind }) => {
+        this.paper.append(...bars.map(({ top, bottom, from, to, lost }) => {
             const mark = document.createElement("div");
-            mark.className = `mark ${kind}`;
-            mark.style.top = `${Math.round((row * high) / this.form.rows)}px`;
-            mark.append(document.createElement("span"));
-            /** @type {HTMLElement} */ (mark.firstChild).textContent = `${head}: ${name}`;
+            mark.className = "mark";
+            mark.style.top = `${top}px`;
+            mark.style.height = `${Math.max(Sheet.LEAST_BAR, bottom - top)}px`;
+            mark.title = lost === 1 ? say(TEXTS.findings.row, from + 1)
+                : lost === to - from + 1 ? say(TEXTS.findings.rows, from + 1, to + 1)
+                : say(TEXTS.findings.between, lost, from + 1, to + 1);
             return mark;
         }));
+    }
+
+    /** The bars of rows that are lost, where they stand on the screen. */
+    bars() {
+        const high = this.size()[1];
+        const scale = high / this.form.rows;
+        const numbers = this.fax.lost.get(this.page)?.numbers ?? new Uint32Array(0);
+        for (let near = Sheet.NEAR; ; near *= 2) {
+            /** @type {{ top: number, bottom: number, from: number, to: number, lost: number }[]} */
+            const bars = [];
+            for (let at = 0; at < numbers.length; at += 3) {
+                const [from, to] = [numbers[at], numbers[at] + numbers[at + 1] - 1];
+                const last = bars[bars.length - 1];
+                const [top, bottom] = [from * scale, (to + 1) * scale];
+                if (last && top - Math.max(last.bottom, last.top + Sheet.LEAST_BAR) < near) {
+                    Object.assign(last, { bottom, to, lost: last.lost + to - from + 1 });
+                } else {
+                    bars.push({ top, bottom, from, to, lost: to - from + 1 });
+                }
+            }
+            if (bars.length <= Sheet.MOST_BARS) {
+                return bars;
+            }
+        }
     }
 }

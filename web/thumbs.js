@@ -121,7 +121,8 @@ class Thumbs {
         const fax = /** @type {Fax} */ (this.fax);
         const state = fax.stateOf(page);
         const label = /** @type {HTMLElement} */ (item.lastElementChild);
-        const text = state === "whole" ? sayPage(page) : `${sayPage(page)}: ${TEXTS.pages[state]}`;
+        const said = fax.sayState(page);
+        const text = state === "whole" ? sayPage(page) : `${sayPage(page)}: ${said}`;
         if (label.textContent !== text) {
             label.textContent = text;
         }
@@ -129,6 +130,6 @@ class Thumbs {
         item.setAttribute("aria-selected", String(page === this.page));
         item.setAttribute("aria-setsize", String(fax.pages));
         item.setAttribute("aria-posinset", String(page + 1));
-        item.setAttribute("aria-label", say(TEXTS.pages.label, sayPage(page), fax.pages));
+        item.setAttribute("aria-label", say(TEXTS.pages.label, sayPage(page), fax.pages, said));
     }
 }

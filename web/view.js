@@ -70,12 +70,12 @@ class View {
         this.fax = null;
         this.reading = 0;
         this.page = -1;
-        this.turns = 0;
         /** @type {number | "whole" | "wide"} */
         this.zoom = "whole";
         /** @type {Map<number, Sheet>} */
         this.sheets = new Map();
         this.isDue = false;
+        this.hasMarks = true;
         view.addEventListener("scroll", () => {
             this.follow();
             this.plan();
@@ -179,6 +179,11 @@ class View {
         return this.sheet?.scale ?? 1;
     }
 
+    /** By how many quarters the page that is looked at is turned. */
+    get turns() {
+        return this.fax?.turnsOf(this.page) ?? 0;
+    }
+
     /** Lays all pages out, and stays at the page that is looked at. */
     lay() {
         this.layAround(this.view.clientWidth / 2, this.view.clientHeight / 2);
@@ -220,9 +225,16 @@ class View {
         this.sheets.forEach((sheet) => sheet !== this.sheet && sheet.fill());
     }
 
-    /** Marks the rows where something is wrong. */
+    /** Marks the rows that are lost, in the margin. */
     mark() {
         this.sheets.forEach((sheet) => sheet.mark());
+    }
+
+    /** Shows marks, or hides them.
+     * @param {boolean} isOn */
+    setMarks(isOn) {
+        this.hasMarks = isOn;
+        this.mark();
     }
 
     toTop() {
@@ -261,9 +273,10 @@ class View {
         }
     }
 
-    /** @param {number} quarters */
+    /** Turns the page that is looked at, and no other.
+     * @param {number} quarters */
     turn(quarters) {
-        this.turns = (this.turns + quarters + 4) % 4;
+        this.fax?.turns.set(this.page, (this.turns + quarters + 4) % 4);
         this.lay();
         this.toTop();
     }

@@ -1,136 +1,5 @@
 "use strict";
 
-/**
- * Makes a fax of a file that is none: of raw PBM, or of bare T.4 or T.6 data, of which the caller says how they are
- * coded.
- *
- * @typedef {{ width: number, rows: number, coding: number, order: number, hasEols: boolean, isAligned: boolean,
- *     isFine: boolean }} Bare
- */
-class Importing {
-    /** How a call that reads bare data may end. */
-    static STATUSES = [Library.DONE, Library.END, Library.FAULT, Library.OUTSIDE, Library.DATA_END];
-
-    /** @param {WebAssembly.Module} module @param {Library} source @param {() => Promise<void>} pause */
-    constructor(module, source, pause) {
-        this.module = module;
-        this.source = source;
-        this.pause = pause;
-    }
-
-    /** A library whose file is this part of the other's memory.
-     * @param {number} at @param {number} length */
-    handOver(at, length) {
-        const library = new Library(this.module);
-        library.bytes(library.takeFile(length), length).set(this.source.bytes(at, length));
-        return library;
-    }
-
-    /** Of raw PBM. */
-    images() {
-        const { status, at, length, image, fault } = this.source.convert(Library.MMR);
-        if (status === Library.DONE) {
-            return { library: this.handOver(at, length), told: null };
-        }
-        if (status !== Library.FAULT && status !== Library.MEMORY) {
-            throw Library.refusal(status);
-        }
-        const name = status === Library.FAULT ? this.source.name("fault", fault.number) : "Memory";
-        return { library: null, told: { image, name } };
-    }
-
-    /** Of bare data, as many rows as can be read.
-     * @param {Bare} bare */
-    async bare(bare) {
-        const { pieces, rows, end } = await this.rowsOf(bare);
-        if (rows === 0) {
-            return { library: null, told: end };
-        }
-        const stride = (bare.width + 7) >> 3;
-        const raster = this.source.room("raster", rows * stride);
-        pieces.reduce((at, piece) => {
-            this.source.bytes(at, piece.length).set(piece);
-            return at + piece.length;
-        }, raster);
-        const form = Uint32Array.of(
-            bare.width, rows, Library.MMR, 1, 0, 0, rows, 1, 204, 1, bare.isFine ? 196 : 98, 1, 2);
-        const written = this.source.room("written", 16);
-        this.source.numbers(written, 4).set([0, 0, 1, 0]);
-        for (let size = 1 << 20; size <= Library.MOST_BYTES; size *= 4) {
-            const file = { at: this.source.room("page", size), size };
-            if (this.source.addPage(form, raster, stride, file, written) === Library.DONE) {
-                return { library: this.handOver(file.at, this.source.numbers(written, 1)[0]), told: end };
-            }
-        }
-        return { library: null, told: { ...end, name: "OutputTooLarge" } };
-    }
-
-    /** The rows of bare data, and how they end.
-     * @param {Bare} bare */
-    async rowsOf(bare) {
-        const { source } = this;
-        const stride = (bare.width + 7) >> 3;
-        const isAlone = bare.isAligned || !bare.hasEols;
-        const room = isAlone ? stride : Math.floor(Library.OUT / stride) * stride;
-        const form = [bare.width, bare.rows, bare.coding, bare.order, 0];
-        const cursor = source.cursor(0, 0);
-        /** @type {Uint8Array[]} */
-        const pieces = [];
-        for (let rows = 0, calls = 0; ; calls++) {
-            Importing.prepare(cursor, bare);
-            const most = bare.rows && !isAlone ? Math.min(room, Math.max(1, bare.rows - rows) * stride) : room;
-            const told = source.readStrip(source.file, source.length, form, cursor, source.out, most, stride);
-            if (!Importing.STATUSES.includes(told.status)) {
-                throw Library.refusal(told.status);
-            }
-            if (told.count > 0) {
-                pieces.push(source.bytes(source.out, told.count * stride).slice());
-                rows += told.count;
-            }
-            const isFull = bare.rows ? rows === bare.rows : rows >= 1000000;
-            if (told.status !== Library.DONE || isFull) {
-                return { pieces, rows, end: this.endOf(told, rows, bare, isFull, cursor) };
-            }
-            if (!isAlone || calls % 500 === 499) {
-                await this.pause();
-            }
-        }
-    }
-
-    /** Where rows have no EOLs, the next one may begin on a byte, or is read as a strip's first.
-     * @param {Cursor} cursor @param {Bare} bare */
-    static prepare(cursor, bare) {
-        const place = cursor.library.numbers(cursor.at, 4);
-        if (bare.isAligned && (!bare.hasEols || bare.coding === Library.MMR)) {
-            place[2] = (place[2] + 7) & ~7;
-        }
-        if (!bare.hasEols) {
-            place[1] = 0;
-        }
-    }
-
-    /** How the rows of bare data end: with a fault's name, or with none.
-     * @param {Told} told @param {number} rows @param {Bare} bare @param {boolean} isFull @param {Cursor} cursor */
-    endOf(told, rows, bare, isFull, cursor) {
-        const isOver = told.status === Library.FAULT && told.fault.number === 101 && !bare.hasEols && !bare.rows &&
-            rows > 0 && this.isBlank(cursor, bare);
-        const isFault = told.status === Library.FAULT && !isOver && !(isFull && bare.rows);
-        return { rows, missing: bare.rows ? bare.rows - rows : 0,
-            name: isFault ? this.source.name("fault", told.fault.number) : "" };
-    }
-
-    /** Whether nothing but zeros stands after a cursor.
-     * @param {Cursor} cursor @param {Bare} bare */
-    isBlank(cursor, bare) {
-        const bits = this.source.numbers(cursor.at, 3)[2];
-        const rest = this.source.bytes(this.source.file, this.source.length).slice(bits >> 3);
-        if (rest.length > 0) {
-            rest[0] &= bare.order === 1 ? 0xff >> (bits & 7) : (0xff << (bits & 7)) & 0xff;
-        }
-        return rest.every((byte) => byte === 0);
-    }
-}
-
 /** The file cannot be taken in. */
 class Broken extends Error {
     /** @param {string} kind */
@@ -262,23 +131,43 @@ class FaxWorker {
         if (sum !== null && sum !== found) {
             throw new Broken("changed");
         }
-        const head = String.fromCharCode(...this.library.bytes(this.library.file, Math.min(2, file.size)));
-        if (bare || head === "P4") {
-            const importing = new Importing(this.module, this.library, this.pause);
-            const made = bare ? await importing.bare(bare) : importing.images();
-            this.send({ event: bare ? "bare" : "images", told: made.told });
-            if (!made.library) {
-                return;
-            }
-            this.library = made.library;
+        const made = await this.imported(file, bare);
+        if (!made.library) {
+            return;
         }
+        this.library = made.library;
         this.salvaging = new Salvaging(this.library);
+        if (made.left) {
+            this.salvaging.give(made.left);
+        }
         this.drawing = new Drawing(this.library, this.salvaging);
         this.isReady();
         this.send({ event: "opened", version: this.version(), sum: found });
         if (reads) {
             await this.read();
         }
+    }
+
+    /** What the file is read as: raw PBM and bare data are made into a fax first.
+     * @param {File} file @param {Bare | null} bare as the reader says that it is coded
+     * @returns {Promise<{ library: Library | null, left: Left | null }>} */
+    async imported(file, bare) {
+        const { library } = this;
+        const importing = new Importing(this.module, library, this.pause);
+        const head = new Kinds(library).head(2);
+        if (!bare && head === "P4") {
+            const made = importing.images();
+            this.send({ event: "images", told: made.told });
+            return made;
+        }
+        const isKnown = ["II", "MM"].includes(head) || new Kinds(library).ofFile("ByteOrder");
+        const coded = bare ?? (isKnown ? null : await new Guessing(library, importing).guess(file.name));
+        if (!coded) {
+            return { library, left: null };
+        }
+        const made = await importing.bare(coded);
+        this.send({ event: "bare", told: made.told, coded: made.coded, isGuessed: !bare });
+        return made;
     }
 
     version() {
@@ -347,7 +236,7 @@ class FaxWorker {
     }
 
     /** Makes a file of a page, or of pages.
-     * @param {{ id: number, kind: string, pages: number[], coding: number, turns: number }} asked */
+     * @param {{ id: number, kind: string, pages: number[], coding: number, turns: number[] }} asked */
     async save({ id, kind, pages, coding, turns }) {
         if (kind === "png") {
             return new Png(this.drawing, this.pause).blob(pages[0]);

@@ -7,7 +7,6 @@ import json
 import os
 import re
 import shutil
-import subprocess
 import urllib.parse
 from typing import Generator
 
@@ -58,7 +57,7 @@ def keys(browser: Browser, _program: str, _room: str) -> Generator[Claim, None, 
         browser.press(key, number={"Home": 36, "End": 35}.get(key, 0))
         yield f"{key}: the page", browser.run(
             '[app.page, Number(document.getElementById("page").value)]'), [page, page + 1]
-    yield "the page is said", browser.run('document.getElementById("said").textContent'), "Page 3, damaged."
+    yield "the page is said", browser.run('document.getElementById("said").textContent'), "Page 3, 1 row missing."
     browser.run('document.getElementById("thumbs").focus()')
     for key, number, page in (("ArrowUp", 38, 1), ("ArrowDown", 40, 2), ("PageUp", 33, 0), ("PageDown", 34, 2)):
         browser.press(key, number=number)
@@ -138,8 +137,8 @@ def heard(browser: Browser, program: str, room: str) -> Generator[Claim, None, N
     yield "two things are heard of a fax", browser.run("heard"), [
         "Opened many.tif, three-pages.tif.", "many.tif: This fax is whole: 40 pages, 100,000 rows."]
     yield "the list says which is damaged", browser.run(
-        '[...document.querySelectorAll("#files button")].map((it) => it.textContent)'), [
-            "many.tif, whole", "three-pages.tif, damaged"]
+        '[...document.querySelectorAll("#files-list button")].map((it) => it.textContent)'), [
+            "many.tif, whole", "three-pages.tif, much is missing"]
     browser.run("document.activeElement.blur(); document.getElementById('letters').checked = false")
     browser.press("n")
     yield "letters are put off", browser.run("app.page"), 0
@@ -205,62 +204,19 @@ def page_first(browser: Chromium, _program: str, _room: str) -> Generator[Claim,
         yield f"{width} by {height}: the page begins in the first screen", browser.run(top) < height - 40, True
         browser.run('document.querySelector("#more > summary").click()')
         browser.until('document.getElementById("findings").checkVisibility()')
-        browser.run('scrollTo(0, 0); document.querySelector("#findings button").click()')
+        yield f"{width} by {height}: it takes the place of the page", browser.run(
+            'document.getElementById("view-part").checkVisibility()'), False
+        browser.run('document.querySelector("#findings button").click()')
         yield f"{width} by {height}: a finding leads to the page", browser.until(
-            'Math.abs(document.getElementById("view-part").getBoundingClientRect().top) < 40 || scrollY > 0'), True
-        browser.run('document.getElementById("more").open = false')
+            'document.getElementById("view-part").checkVisibility() && !document.getElementById("more").open'), True
+        yield f"{width} by {height}: nothing scrolls but the page", browser.run("""[...document.querySelectorAll("*")]
+            .filter((it) => it.checkVisibility() && it.scrollHeight > it.clientHeight + 1 &&
+                /auto|scroll/.test(getComputedStyle(it).overflowY)).map((it) => it.id || it.localName)
+            .filter((it) => it !== "view")"""), []
     browser.resize(1280, 900)
     browser.until("document.getElementById('more').open")
     paper = browser.run('getComputedStyle(document.querySelector(".paper")).backgroundColor')
     yield "what is not drawn is not white", paper != "rgb(255, 255, 255)", True
-
-
-def printed(browser: Browser, _program: str, room: str) -> Generator[Claim, None, None]:
-    """What is printed is the page alone, in its size."""
-    if not shutil.which("pdftotext"):
-        print("SKIPPED: what is printed of the page (poppler-utils)")
-        return
-    browser.run("while (app.fax) app.close()")
-    browser.choose("#choose", f"{TOP}/samples/received/over-a-noisy-line.tif")
-    browser.until('app.fax && app.fax.state === "done" && document.querySelector(".current canvas[data-drawn]")')
-    made = put(f"{room}/printed.pdf", browser.printed())
-    words = subprocess.run(["pdftotext", made, "-"], capture_output=True, check=True).stdout.decode().split()
-    yield "no word of the page is printed", words, []
-    told = subprocess.run(["pdfinfo", made], capture_output=True, check=True).stdout.decode()
-    yield "one sheet", found(r"Pages: +(\d+)", told)[1], "1"
-    images = subprocess.run(["pdfimages", "-list", made], capture_output=True, check=True).stdout.decode()
-    yield "in its size: so many dots to the inch", {tuple(line.split()[12:14]) for line in images.splitlines()[2:]}, {
-        ("204", "98")}
-
-
-def printed_whole(browser: Browser, program: str, room: str) -> Generator[Claim, None, None]:
-    """All of the page is printed, also what is out of sight."""
-    if not shutil.which("pdftoppm"):
-        print("SKIPPED: what is printed of a long page (poppler-utils)")
-        return
-    browser.run("while (app.fax) app.close()")
-    # White, with a black band of an inch at its end, on paper 10 inches long.
-    rows = [0] * (9 * 196) + [(1 << 1600) - 1] * 196
-    path = put(f"{room}/band.tif", faxes.convert(program, pages.image(1600, rows), "-o", "mmr"))
-    browser.choose("#choose", path)
-    browser.until('app.fax && app.fax.state === "done" && app.view.form !== null')
-    browser.run("app.view.setZoom('wide'); app.view.zoomBy(3); app.view.toTop()")
-    browser.until("app.view.sheet.tiles.size === 2 && "
-                  "[...app.view.sheet.tiles.values()].every((tile) => tile.dataset.drawn) && !app.view.isDue")
-    made = put(f"{room}/band.pdf", browser.printed())
-    subprocess.run(["pdftoppm", "-r", "20", "-gray", "-singlefile", made, f"{room}/band"], check=True)
-    width, _, raster = found(rb"\AP5\s+(\d+)\s+(\d+)\s+255\s(.*)", get(f"{room}/band.pgm"), re.S).groups()
-    greys = [raster[int(width) * row + 60] for row in (10, 100, 170, 185, 195)]
-    yield "white, and the band", [grey // 128 for grey in greys], [1, 1, 1, 0, 0]
-    browser.run("app.view.setZoom('whole'); while (app.fax) app.close()")
-    # 11.7 inches, on paper of 11.
-    long = faxes.convert(program, pages.image(1600, [(1 << 1600) - 1] * 2293), "-o", "mmr")
-    browser.choose("#choose", put(f"{room}/long.tif", long))
-    browser.until('app.fax && app.fax.state === "done" && app.view.sheet.tiles.size > 0 && '
-                  "[...app.view.sheet.tiles.values()].every((tile) => tile.dataset.drawn)")
-    made = put(f"{room}/long.pdf", browser.printed())
-    told = subprocess.run(["pdfinfo", made], capture_output=True, check=True).stdout.decode()
-    yield "a fax that is longer than the paper is on one sheet", found(r"Pages: +(\d+)", told)[1], "1"
 
 
 def refusals(browser: Browser, _program: str, _room: str) -> Generator[Claim, None, None]:

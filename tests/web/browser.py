@@ -108,8 +108,8 @@ class Browser:
         """Writes what is seen into a file, as PNG."""
         raise NotImplementedError
 
-    def printed(self) -> bytes:
-        """What the browser prints, as PDF."""
+    def printed(self, width: float = 8.5, height: float = 11) -> bytes:
+        """What the browser prints on sheets of so many inches, as PDF."""
         raise NotImplementedError
 
     def memory(self, name: str = "VmRSS") -> int:

@@ -192,8 +192,9 @@ class Chromium(Browser):
         self.call("HeapProfiler.collectGarbage")
         self.run("new Promise((resolve) => setTimeout(resolve, 200))")
 
-    def printed(self) -> bytes:
-        return base64.b64decode(self.call("Page.printToPDF", printBackground=True)["data"])
+    def printed(self, width: float = 8.5, height: float = 11) -> bytes:
+        return base64.b64decode(self.call(
+            "Page.printToPDF", printBackground=True, paperWidth=width, paperHeight=height)["data"])
 
     def close(self) -> None:
         try:

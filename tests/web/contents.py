@@ -10,7 +10,8 @@ import random
 from tests.convert import pages
 from tests.convert.files import get
 from tests.finding import found
-from tests.web import faxes
+from tests.web import faxes, verdicts
+from tests.web.verdicts import counted
 
 # The size of a thumbnail, how much darker ink is drawn in it, and the grey of rows that are lost.
 SMALL, INK, GREY = 112, 1.6, 168
@@ -50,9 +51,8 @@ def small(picture: Picture) -> Picture:
     for rows in lines:
         for column, size in zip(columns, bits):
             black = sum(pels[row * wide + column.start:row * wide + column.stop].count(1) for row in rows)
-            is_lost = any(pels[row * wide] == 2 for row in rows)
-            grey = rounded(255 * (1 - min(1, INK * black / max(1, size * len(rows)))))
-            cells.append(GREY if is_lost else grey)
+            found = sum(pels[row * wide] != 2 for row in rows)
+            cells.append(rounded(255 * (1 - min(1, INK * black / (size * found)))) if found else GREY)
     return across, down, bytes(cells)
 
 
@@ -70,12 +70,8 @@ def whole(program: str, data: bytes) -> Content:
     return Content(data, verdict, "whole", len(pictures), pictures[:9])
 
 
-def counted(count: int, name: str) -> str:
-    return f"{count:,} {name}{'' if count == 1 else 's'}"
-
-
 def damaged(program: str, path: str) -> Content | None:
-    """A fax with rows that are lost, if each of its pages has something that can be read."""
+    """A fax with rows that are lost, if each of its pages has something that can be read, in the usual resolution."""
     listed = faxes.said(program, "list", path).splitlines()
     told = [line.split() for line in faxes.said(program, "salvage", path).splitlines() if line.startswith("lost ")]
     notes = [line for line in faxes.said(program, "check", path).splitlines() if line.startswith("note ")]
@@ -84,16 +80,20 @@ def damaged(program: str, path: str) -> Content | None:
     drawn = [faxes.picture(program, path, page) for page in range(count)]
     if not lost or not count or None in drawn or any(line.startswith("fault") for line in listed):
         return None
-    verdict = f"This fax is damaged: {count - len(lost)} of {counted(count, 'page')} can be read wholly."
+    rows, missing = verdicts.rows_of_pages(program, path), verdicts.lost_of_pages(program, path)
+    sizes = [[str(it[0]), str(it[1])] for it in drawn if it]
+    if sizes != [line.split()[2:4] for line in listed if line.startswith("page ")]:
+        # A resolution is damaged: pels are repeated in the picture, and the thumbnail has another shape.
+        return None
     lines = [lost_line(int(page), int(row), int(rows), name) for _, page, row, rows, name, *_ in told]
-    return Content(get(path), verdict, "damaged", count, [it[:3] for it in drawn if it],
-                   lines + [note_line(line) for line in notes])
+    return Content(get(path), verdicts.missing(rows, missing), verdicts.look(rows, missing), count,
+                   [it[:3] for it in drawn if it], lines + [note_line(line) for line in notes])
 
 
 def lost_line(page: int, row: int, rows: int, name: str) -> str:
     """What the page says of rows that are lost."""
-    where = f"row {row + 1:,}" if rows == 1 else f"rows {row + 1:,} to {row + rows:,}"
-    return f"Page {page + 1}, {where} cannot be read: {name}"
+    where = f"row {row + 1:,} is" if rows == 1 else f"rows {row + 1:,} to {row + rows:,} are"
+    return f"Page {page + 1}, {where} missing: {name}"
 
 
 def note_line(line: str) -> str:

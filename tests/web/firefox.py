@@ -194,8 +194,12 @@ class Firefox(Browser):
         with open(file, "wb") as out:
             out.write(base64.b64decode(self.call("browsingContext.captureScreenshot", context=self._page)["data"]))
 
-    def printed(self) -> bytes:
-        return base64.b64decode(self.call("browsingContext.print", context=self._page, background=True)["data"])
+    def printed(self, width: float = 8.5, height: float = 11) -> bytes:
+        # Sizes are in cm. The margins are those of the page, which has none.
+        told = self.call("browsingContext.print", context=self._page, background=True,
+                         page={"width": 2.54 * width, "height": 2.54 * height},
+                         margin={"top": 0, "bottom": 0, "left": 0, "right": 0})
+        return base64.b64decode(told["data"])
 
     def memory(self, name: str = "VmRSS") -> int:
         # All processes of the browser are of one session, and those that have pages are called so.

@@ -14,7 +14,7 @@ from tests.finding import found
 from tests.web.browser import Browser
 
 SAMPLE = f"{TOP}/samples/three-pages.tif"
-WHOLE = "This fax is damaged: 2 of 3 pages can be read wholly."
+WHOLE = "Readable in part. 1 of 6 rows is missing, on page 3."
 REFUSED = ("This file was not read: the rules of the server that this page is from (Content-Security-Policy) do not "
            "let it work. docs/INSTALL.md says which rules do.")
 # Rules of a server that break it.

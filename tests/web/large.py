@@ -176,10 +176,10 @@ def many_notes(browser: Browser, program: str, room: str) -> Generator[Claim, No
     strip = hostile.packed("000000000001" + "10011" + "000000000001" * 6)
     path = put(f"{room}/notes.tif", pages(30000, strip))
     browser.choose("#choose", path)
-    browser.until('app.fax && app.fax.state === "done" && document.querySelectorAll("#findings li").length > 0')
-    listed = browser.run('document.querySelectorAll("#findings li").length')
+    browser.until('app.fax && app.fax.state === "done" && document.querySelectorAll("#notes-list li").length > 0')
+    listed = browser.run('document.querySelectorAll("#notes-list li").length')
     yield "30,000 notes: the others are counted", browser.run(
-        'document.getElementById("findings-more").textContent').split(".")[0], f"{30000 - listed:,} more are not shown"
+        'document.getElementById("notes-more").textContent').split(".")[0], f"{30000 - listed:,} more are not shown"
     browser.run("""document.getElementById("save").elements.kind.value = "text";
         document.querySelector("#save button").click()""")
     browser.until('app.fax.making && app.fax.making.state === "ready"')
@@ -195,7 +195,7 @@ def many_files(browser: Browser, program: str, room: str) -> Generator[Claim, No
     browser.until("app.faxes.length === 100 && app.faxes.every((fax) => fax.state === 'done')")
     browser.until("app.faxes.filter((fax) => fax.life.worker).length <= 6")
     yield "a hundred files: few workers", browser.run("app.faxes.filter((fax) => fax.life.worker).length <= 6"), True
-    browser.run('document.querySelectorAll("#files button")[3].click()')
+    browser.run('document.querySelectorAll("#files-list button")[3].click()')
     browser.until('app.view.fax === app.faxes[3] && document.querySelector(".current canvas[data-drawn]")')
     name = browser.run('document.getElementById("name").textContent')
     yield "a hundred files: one of the first is drawn", name, "file-3.tif"

@@ -22,7 +22,7 @@ LATER = """(() => {{
     const parts = [{before}, text];
     Fax.parts.place = URL.createObjectURL(new Blob(parts, {{ type: "text/javascript" }}));
 }})()"""
-FINDINGS = '[...document.querySelectorAll("#findings li")].map((it) => it.textContent)'
+FINDINGS = '[...document.querySelectorAll("#findings > li, #notes-list li")].map((it) => it.textContent)'
 NOTES = [{"page": 0, "strip": 0, "number": 98, "name": "LaterNote"},
          {"page": 0, "strip": None, "number": 99, "name": "Unknown"}]  # fmt: skip
 CALLS = ("list", "check", "rows", "salvage", "convert")
@@ -44,13 +44,16 @@ def numbers(browser: Browser, _program: str, _room: str) -> Generator[Claim, Non
         "note page 0 strip 0: N98 LaterNote", "note page 0: N99 Unknown"]
     means = "A note of a later version. Open it with a later version of this page."
     yield "later: notes on the page", browser.run(FINDINGS), [
-        f"Page 1, strip 1: N98 LaterNote{means}", f"Page 1: N99 Unknown{means}"]
+        f"Page 1, strip 1N98 LaterNote: {means}", f"Page 1N99 Unknown: {means}"]
     yield "later: all notes", browser.run("app.fax.ask('noteLines', {}).then((blob) => blob.text())"), (
         "note page 0 strip 0: N98 LaterNote\nnote page 0: N99 Unknown\n")
     said = opened(browser, "fault", 1)
     yield "later: a fault in the report", FAULT in said, True
-    yield "later: a fault on the page", browser.run(FINDINGS), [
-        "The file cannot be read: Unknown 99 300A fault of a later version. Open it with a later version of this page."]
+    yield "later: a fault on the page", browser.run(
+        '[...document.querySelectorAll("#findings .names p")].map((it) => it.textContent)'), [
+            "The file, it cannot be read: Unknown 99 300", "Unknown 99 300: A fault of a later version."]
+    yield "later: what to do about it", browser.run('document.getElementById("advice").textContent'), (
+        "Open it with a later version of this page.")
     said = opened(browser, "status", 0)
     yield f"later: a status is an error, in {said}", (
         browser.run("app.fax.state"), "the library answered with status 99" in said), ("failed", True)

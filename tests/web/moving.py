@@ -120,7 +120,7 @@ def many(browser: Browser, program: str, room: str) -> Generator[Claim, None, No
     for at in (1, 3, 1):
         browser.press("d")
         yield "d: the next damaged file", browser.run("app.faxes.indexOf(app.fax)"), at
-    yield "it is said", browser.run('document.getElementById("said").textContent.includes("This fax is damaged")'), True
+    yield "it is said", browser.run('document.getElementById("said").textContent.includes("missing")'), True
     browser.run("document.getElementById('damaged').click()")
     yield "the button does the same", browser.run("app.faxes.indexOf(app.fax)"), 3
     browser.run("while (app.fax) app.close()")

@@ -36,7 +36,7 @@ OF_A_WORKER = 24 * 2 ** 20
 # Seconds until all has settled, or it hangs.
 SOON = 90
 BROKE = "it broke"
-NOTHING = "No page can be read wholly, so there is nothing to save in this way."
+NOTHING = "No page is whole, so there is nothing to save in this way."
 # What a verdict may begin with, and what has to have happened then.
 ANEW = "The file was changed on the disk, and was read again. "
 LATER = re.compile(r"It cannot be shown any more: (.*?) What was read of it before: ")
@@ -64,8 +64,8 @@ SEEN = f"""(() => {{
         .filter((_, at) => at % 4 === 0);
     const link = document.querySelector("#saved a");
     return JSON.stringify({{
-        files: [...document.querySelectorAll("#files button")].map((it) => [it.firstChild.textContent, it.className,
-            it.getAttribute("aria-pressed")]),
+        files: [...document.querySelectorAll("#files-list button")].map((it) => [it.firstChild.textContent,
+            it.className, it.getAttribute("aria-pressed")]),
         none: document.getElementById("fax").hidden, name: text("name"), verdict: text("verdict"),
         title: document.title,
         look: document.getElementById("verdict").className, page: document.getElementById("page").value, of: text("of"),
@@ -77,7 +77,8 @@ SEEN = f"""(() => {{
                 ? btoa(String.fromCharCode(...greys(it.firstChild))) : ""]),
         workers: watched.live.size, owned: faxes.filter((fax) => watched.live.has(fax.life.worker)).length,
         addresses: watched.urls.size, ready: faxes.filter((fax) => fax.making?.place).length,
-        found: [...document.querySelectorAll("#findings button")].map((it) => it.textContent),
+        found: [...document.querySelectorAll("#findings .name, #notes-list li")].map((it) => it.className === "name"
+            ? it.textContent : `${{it.firstChild.textContent}}: ${{it.lastChild.textContent.split(":")[0]}}`),
         saved: text("saved"), link: link && link.download,
     }});
 }})()"""
@@ -140,7 +141,7 @@ class Operator:
         # Those that were changed, or have something to be saved, are gone back to more often.
         marked = [at for at, it in enumerate(self.opened) if "touched" in it.befell or it.saved]
         at = self.draw.choice(marked) if marked and self.draw.random() < 0.4 else self.draw.randrange(len(self.opened))
-        said = self.click(f'#files button:nth-child({at + 1})', f"show {self.opened[at].name}")
+        said = self.click(f'#files-list button:nth-child({at + 1})', f"show {self.opened[at].name}")
         self.shown = self.opened[at] if said else self.shown
         return said
 

@@ -106,7 +106,7 @@ def damaged(browser: Browser, program: str, room: str) -> Generator[Claim, None,
         if pages:
             saved = put(f"{room}/saved.tif", got)
             yield f"{path}: rows", faxes.said(program, "rows", saved).splitlines(), [*wanted, "end"]
-            yield f"{path}: it says how many", f"made of {len(pages)} of {count} page" in said, len(pages) < count
+            yield f"{path}: it says how many", f"has {len(pages)} of {count} page" in said, len(pages) < count
             tried += 1
         else:
             yield f"{path}: nothing is made", (got, name, "nothing to save" in said), (b"", "", True)
@@ -144,20 +144,12 @@ def greys(browser: Browser, program: str, room: str) -> Generator[Claim, None, N
 
 
 def turned(browser: Browser, room: str) -> Generator[Claim, None, None]:
-    """The PDF of a page that was turned says so, and the one to be printed is opened and not saved."""
+    """The PDF of a page that was turned says so."""
     opened(browser, f"{TOP}/samples/three-mmr-rows.tif")
     browser.run("app.view.turn(1)")
     put(f"{room}/turned.pdf", made(browser, "pdf")[0])
     said = subprocess.run(["pdfinfo", f"{room}/turned.pdf"], capture_output=True, check=True).stdout.decode()
     yield "turned right", found(r"Page rot: +(\d+)", said)[1], "90"
-    browser.run("app.view.turn(-1); app.fax.setMaking(null)")
-    browser.run('document.getElementById("print").click()')
-    browser.until("""app.fax.making?.place &&
-        document.querySelector("#saved a")?.href === app.fax.making.place""")
-    yield "what is printed is opened", browser.run("""(() => {
-        const link = document.querySelector("#saved a");
-        return [link.target, link.hasAttribute("download"), link.textContent];
-    })()"""), ["_blank", False, "Open three-mmr-rows.pdf, to print it"]
     close_all(browser)
 
 
@@ -230,20 +222,21 @@ def bare(browser: Browser, program: str, room: str) -> Generator[Claim, None, No
             words: dict[str, int] = {"coding": at, "order": order, "width": 40, "rows": 0}
             for number in (0, 30):
                 yield from as_bare(browser, program, room, strip, {**words, "rows": number}, rows,
-                                   "read to their end: 30 rows")
+                                   "This fax is whole: 1 page, 30 rows.")
             half = strip[:len(strip) // 2]
-            yield from as_bare(browser, program, room, half, {**words, "rows": 30}, None, "are missing")
+            yield from as_bare(browser, program, room, half, {**words, "rows": 30}, None, "of 30 rows")
     bits = ["1000111000", "10011", "1000111000"]
     few = "row 0 0 3 2 3\nrow 0 1 8\nrow 0 2 3 2 3\nend\n"
     for aligned in (False, True):
         text = "".join(it + "0" * (-len(it) % 8 if aligned else 0) for it in bits)
         data = int(text + "0" * (-len(text) % 8), 2).to_bytes(-(-len(text) // 8), "big")
         words = {"coding": 1, "order": 1, "width": 8, "rows": 3, "eols": False, "aligned": aligned}
-        yield from as_bare(browser, program, room, data, words, few, "read to their end: 3 rows")
+        yield from as_bare(browser, program, room, data, words, few, "This fax is whole: 1 page, 3 rows.")
         if aligned:
-            yield from as_bare(browser, program, room, data, {**words, "rows": 0}, few, "read to their end: 3 rows")
+            yield from as_bare(browser, program, room, data, {**words, "rows": 0}, few,
+                               "This fax is whole: 1 page, 3 rows.")
     words = {"coding": 1, "order": 1, "width": 8, "rows": 0}
-    yield from as_bare(browser, program, room, b"\xff" * 40, words, "", "No row can be read")
+    yield from as_bare(browser, program, room, b"\xff" * 40, words, "", "No row is found")
     yield "a wrong width is refused", browser.run("""(() => {
         const form = document.getElementById("bare");
         form.elements.width.removeAttribute("max");
@@ -258,7 +251,7 @@ def as_bare(browser: Browser, program: str, room: str, data: bytes, words: dict[
             verdict: str) -> Generator[Claim, None, None]:
     """Fills the form in, and compares the rows of the fax that it makes."""
     close_all(browser)
-    opened(browser, put(f"{room}/bare.g3", data))
+    opened(browser, put(f"{room}/bare.bin", data))
     name = f"bare {words}"
     browser.until('!document.getElementById("bare-open").hidden')
     browser.run('document.getElementById("bare-open").click()')
@@ -273,5 +266,8 @@ def as_bare(browser: Browser, program: str, room: str, data: bytes, words: dict[
     browser.until('app.fax.told && app.fax.state === "done"')
     yield f"{name}: what is said", verdict in browser.run("app.fax.verdict()"), True
     if rows:
+        said = f"It is read as {faxes.CODINGS[words['coding'] - 1].upper()}, {words['width']} dots wide, as you said."
+        yield f"{name}: how it is read is said", browser.until(
+            f'document.getElementById("taken").textContent.endsWith("{said}")'), True
         saved = put(f"{room}/saved.tif", made(browser, "tiff3")[0])
         yield f"{name}: rows", faxes.said(program, "rows", saved), rows

@@ -14,7 +14,7 @@ from typing import Generator, Iterable
 from tests import TOP, Claim
 from tests.convert import pages
 from tests.convert.files import get, put
-from tests.web import faxes
+from tests.web import faxes, verdicts
 from tests.web.browser import Browser
 
 # The pels of a page on the screen, from its canvases: 0, 1 or 2 a pel.
@@ -39,7 +39,9 @@ PELS = f"{PELS_OF}(app.view.sheet)"
 READ = "app.faxes.length === {} && app.faxes.every((fax) => !fax.isBusy())"
 DRAWN = """app.fax.state === "done" && app.view.page === {} && app.view.sheet.shrinking().join() === "1,1" &&
     app.view.sheet.tiles.size > 0 && [...app.view.sheet.tiles.values()].every((tile) => tile.dataset.drawn)"""
-FINDINGS = '[...document.querySelectorAll("#findings li button")].map((it) => it.textContent)'
+# What is missing, and what is noted, with the names of faults and notes.
+FINDINGS = """[...document.querySelectorAll("#findings .name, #notes-list li")].map((it) => it.className === "name"
+    ? it.textContent : `${it.firstChild.textContent}: ${it.lastChild.textContent.split(":")[0]}`)"""
 
 
 def close_all(browser: Browser) -> None:
@@ -52,7 +54,8 @@ def texts(browser: Browser, program: str, room: str) -> Generator[Claim, None, N
     browser.drop(*names)
     browser.until(READ.format(len(names)))
     told = json.loads(browser.run("""JSON.stringify(app.faxes.map((fax) => ({ text: fax.text(), name: fax.file.name,
-        verdict: fax.verdict(), lost: fax.lost.size + fax.refused.size + Number(Boolean(fax.end)) })))"""))
+        verdict: fax.verdict(), lost: fax.lost.size + fax.refused.size + Number(Boolean(fax.end)),
+        cut: fax.cut.size, rows: fax.lostRows, refused: fax.refused.size })))"""))
     yield f"{len(names)} files are read", len(told), len(names)
     for path, fax in zip(names, told):
         name = os.path.basename(path)
@@ -61,8 +64,10 @@ def texts(browser: Browser, program: str, room: str) -> Generator[Claim, None, N
         yield f"{name}: the list", first_part(listed), wanted
         yield f"{name}: check", checked, faxes.said(program, "check", path)
         is_damaged = re.search("^fault", wanted + checked, re.M) is not None
-        yield f"{name}: damaged or whole", (fax["lost"] > 0, "whole" in fax["verdict"].split(":")[0]), (
-            is_damaged, not is_damaged and "note" not in checked)
+        yield f"{name}: damaged or whole", (fax["lost"] + fax["cut"] > 0, "whole" in fax["verdict"].split(":")[0]), (
+            is_damaged, fax["lost"] == 0)
+        if not fax["refused"]:
+            yield f"{name}: rows that are missing", fax["rows"], sum(verdicts.lost_of_pages(program, path).values())
         yield f"{name}: it says which rows are lost", (lost != "") <= is_damaged, True
     close_all(browser)
 
@@ -104,24 +109,25 @@ def first_part(listed: str) -> str:
 def findings(browser: Browser, program: str, room: str) -> Generator[Claim, None, None]:
     """The faults, the notes and their words stand in the page, each once, and lead to where they are."""
     wanted: dict[str, tuple[list[str], int]] = {
-        "damaged-fourth-page.tif": (["Page 4, rows 6 to 11 cannot be read: OutOfRow"], 3),
+        "damaged-fourth-page.tif": (["Page 4, rows 6 to 11 are missing: OutOfRow"], 3),
         "return-to-control.tif": (["Page 1, strip 1: ReturnToControl"], 0),
-        "three-pages.tif": (["Page 3, row 2 cannot be read: DataEnds"], 2),
+        "three-pages.tif": (["Page 3, row 2 is missing: DataEnds"], 2),
         "one-mh-page.tif": ([], 0),
     }
     for name, (lines, page) in wanted.items():
         browser.choose("#choose", f"{TOP}/samples/{name}")
         browser.until(f'app.fax && app.fax.state === "done" && document.getElementById("name").textContent === "{name}"'
-                      f' && document.querySelectorAll("#findings li").length === {len(lines)}')
+                      f' && {FINDINGS}.length === {len(lines)}')
         yield f"{name}: findings", browser.run(FINDINGS), lines
         browser.run('document.getElementById("report").open = true')
         browser.until('document.getElementById("report-text").textContent === app.fax.text()')
         if lines:
-            browser.run('document.querySelector("#findings button").click()')
+            browser.run('document.querySelector("#findings button, #notes-list button").click()')
             yield f"{name}: the first leads there", browser.run("app.page"), page
+        if "missing" in "".join(lines):
             browser.until('document.querySelector(".current .mark")')
-            yield f"{name}: a mark on the page", browser.run(
-                'document.querySelector(".current .mark").textContent.includes("%s")' % lines[0].split(": ")[1]), True
+            yield f"{name}: a mark beside the page", browser.run('document.querySelector(".current .mark").title'), (
+                lines[0].split(": ")[0].split(", ")[1])
     close_all(browser)
 
 
@@ -150,12 +156,14 @@ def kinds(browser: Browser, _program: str, room: str) -> Generator[Claim, None, 
         browser.until(f"""app.fax && app.fax.state === "done" && app.fax.file.name === "{name}" &&
             document.getElementById("verdict").textContent === app.fax.verdict()""")
         told = browser.run("""[document.getElementById("verdict").textContent.replace(/\\..*/, ""),
-            document.getElementById("verdict").className, document.getElementById("bare").hidden, app.fax.isWhole()]""")
+            document.getElementById("verdict").className, document.getElementById("bare-part").hidden,
+            app.fax.isWhole()]""")
         yield f"{name}: what is said", told, [f"This is no fax that is read here, but {kind}", "left", True, False]
-        yield f"{name}: in the list", browser.run("App.lookOf(app.fax)"), "other"
+        yield f"{name}: in the list", browser.run("Files.lookOf(app.fax)"), "other"
     browser.choose("#choose", put(f"{room}/mixed.tif", b"\x00\x01\xfe" * 30))
     browser.until('app.fax && app.fax.file.name === "mixed.tif" && app.fax.state === "done"')
-    yield "other bytes are of no known kind", browser.run("app.fax.verdict()"), "This file cannot be read as a fax."
+    yield "other bytes are of no known kind", browser.run("app.fax.verdict()"), (
+        "This file cannot be read as a fax: it is no TIFF file.")
     close_all(browser)
 
 
