@@ -76,9 +76,11 @@ class Fax extends Known {
     ];
     static ids = 0;
 
-    /** @param {File} file @param {(fax: Fax) => void} changed */
-    constructor(file, changed) {
+    /** @param {File} file @param {(fax: Fax) => void} changed
+     * @param {(fax: Fax) => void} [taken] each time that it was taken in to be read */
+    constructor(file, changed, taken = () => {}) {
         super();
+        this.taken = taken;
         this.file = file;
         this.changed = changed;
         this.number = ++Fax.ids;
@@ -97,7 +99,9 @@ class Fax extends Known {
         /** Which reading of the file it is that is known: an answer of an earlier one is nobody's. */
         this.reading = 0;
         this.seen = "";
-        this.sum = 0;
+        /** A sum of the bytes of the file, once they were taken in.
+         * @type {number | null} */
+        this.sum = null;
         this.wasChanged = false;
         /** What is made of it, for who saves it.
          * @type {Making | null} */
@@ -197,11 +201,19 @@ class Fax extends Known {
         this[/** @type {"onWalked"} */ (name)](data);
     }
 
+    /** Whether it is the same file, which was opened before: of the same name, size and time, and with the same bytes.
+     * @param {Fax} other */
+    isTwinOf(other) {
+        const isSame = this.file.name === other.file.name && this.looks() === other.looks() && this.sum === other.sum;
+        return isSame && this.number < other.number && !this.failure && this.sum !== null;
+    }
+
     /** @param {any} data */
     onOpened({ sum }) {
         this.sum = sum;
         if (this.state === "opens") {
             this.move("lists");
+            this.taken(this);
         }
     }
 

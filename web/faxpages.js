@@ -38,11 +38,28 @@ class App {
             cancel: the("print-cancel") }, (text) => this.announce(text));
         this.hands = new Hands(this.view, (pages) => this.goTo(this.page + pages));
         this.thumbs = new Thumbs(the("thumbs"), the("thumbs-all"), (page) => this.goTo(page));
+        this.keeping = new Keeping(the("keep"));
         App.fillTexts();
         this.listen();
         this.listenForFiles();
         this.fold();
         this.render();
+        this.restore();
+    }
+
+    /** Opens again what was open before the page was loaded again. */
+    async restore() {
+        const files = await this.keeping.restored();
+        const { shown, pages } = this.keeping.noted();
+        const { fax, faxes } = this;
+        const before = faxes.length;
+        if (files.length > 0) {
+            this.open(files);
+            faxes.slice(before).forEach((it, index) => {
+                it.at = pages[index] || 0;
+            });
+            this.show(fax ?? faxes[shown] ?? faxes[0]);
+        }
     }
 
     /** Puts the words into the page, which has none of its own. */
@@ -52,6 +69,8 @@ class App {
             element.textContent = texts[/** @type {HTMLElement} */ (element).dataset.text ?? ""];
         });
         the("print-pages").placeholder = TEXTS.printing.all;
+        the("filter").placeholder = TEXTS.files.part;
+        the("keep").title = the("keep").parentElement.title = TEXTS.keeping;
         document.querySelectorAll("[data-label]").forEach((element) => {
             const label = texts[/** @type {HTMLElement} */ (element).dataset.label ?? ""];
             element.setAttribute("aria-label", label);
@@ -86,7 +105,7 @@ class App {
         on("close", () => this.close());
         the("report").addEventListener("toggle", () => this.renderReport());
         the("page").addEventListener("change", () => {
-            this.goTo(Number(the("page").value) - 1);
+            this.goTo(the("page").valueAsNumber - 1);
             the("page").value = sayPage(this.page);
         });
         the("print-pages").addEventListener("keydown", (/** @type {KeyboardEvent} */ event) => {
@@ -101,6 +120,9 @@ class App {
                 does();
             });
         }
+        the("keep").addEventListener("change", () => this.keeping.change(this.faxes));
+        addEventListener("pagehide", () => this.keeping.note({
+            shown: this.fax ? this.faxes.indexOf(this.fax) : 0, pages: this.faxes.map(({ at }) => at) }));
         document.addEventListener("keydown", (event) => this.key(event));
     }
 
@@ -145,13 +167,28 @@ class App {
     /** @param {File[]} files */
     open(files) {
         the("refused").textContent = "";
-        const faxes = files.map((file) => new Fax(file, () => this.changed()));
+        const faxes = files.map((file) => new Fax(file, () => this.changed(), (fax) => this.take(fax)));
         this.faxes.push(...faxes);
         if (faxes.length > 0) {
             this.show(faxes[0]);
             this.announce(say(TEXTS.announce.opened, faxes.map((fax) => sayName(fax.file.name)).join(", ")));
         }
         this.startNext();
+    }
+
+    /** Keeps a file that was taken in; closes one that is open already with the same bytes, and shows that one.
+     * @param {Fax} fax */
+    take(fax) {
+        const twin = fax.reading === 1 && this.faxes.find((it) => it !== fax && it.isTwinOf(fax));
+        if (!twin) {
+            this.keeping.keep(fax);
+        } else {
+            this.faxes.splice(this.faxes.indexOf(fax), 1);
+            fax.close();
+            if (this.fax === fax) {
+                this.show(twin);
+            }
+        }
     }
 
     /** Starts files that wait, while there is room; and ends workers that have nothing to do. */
@@ -182,6 +219,7 @@ class App {
         const { fax } = this;
         if (fax) {
             fax.close();
+            this.keeping.forget(fax.number);
             const at = this.faxes.indexOf(fax);
             this.faxes.splice(at, 1);
             this.show(this.faxes[Math.min(at, this.faxes.length - 1)] ?? null);
@@ -194,7 +232,10 @@ class App {
     closeAll() {
         const { faxes } = this;
         this.faxes = [];
-        faxes.forEach((fax) => fax.close());
+        faxes.forEach((fax) => {
+            fax.close();
+            this.keeping.forget(fax.number);
+        });
         this.show(null);
         this.announce(say(TEXTS.announce.closed, sayCount(faxes.length, "file", "files")));
     }

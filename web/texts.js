@@ -14,6 +14,7 @@ const TEXTS = {
         motto: "Shows a fax, and says what is missing of it. Nothing leaves this computer.",
         open: "Open files…",
         openFolder: "Open a folder…",
+        keep: "Keep open files over a reload",
         welcome: "Drop faxes or folders here, paste them, or choose them by Open files…",
         welcomeMore: "Files from fax servers (TIFF), raw PBM, and bare fax data (T.4, T.6). Damaged ones too: all " +
             "that is left is shown, and what is missing is marked.",
@@ -196,7 +197,10 @@ const TEXTS = {
     },
     codings: ["", "MH", "MR", "MMR"],
     units: ["", "", "inch", "cm"],
+    keeping: "Files that are open come back when the page is loaded again. Until you close them they are kept in " +
+        "this browser's storage, on this computer.",
     files: {
+        part: "part of the name",
         tooLarge: "The file has more than 268,435,456 bytes, which is the most that is read.",
         unreadable: "This file cannot be read as a fax.",
         failed: "This file was not read: {0}",

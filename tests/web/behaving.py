@@ -253,14 +253,18 @@ def refusals(browser: Browser, _program: str, _room: str) -> Generator[Claim, No
 
 
 def nothing_is_asked(browser: Chromium, address: str) -> Generator[Claim, None, None]:
-    """Whatever was done, the page asked for its own files alone, and keeps nothing."""
+    """Whatever was done, the page asked for its own files alone, and keeps nothing of files that are closed."""
     folder = address.rsplit("/", 1)[0] + "/"
     asked = [it["params"]["request"]["url"] for it in browser.events if it["method"] == "Network.requestWillBeSent"]
     elsewhere = [url for url in asked if not url.startswith((folder, "blob:", "data:")) and "refused" not in url]
     yield f"{address}: requests elsewhere", elsewhere, []
     yield f"{address}: its own files were asked for", sum(url.startswith(folder) for url in asked) >= 10, True
-    yield f"{address}: nothing is kept", browser.run("""(async () => [document.cookie, localStorage.length,
-        sessionStorage.length, (await indexedDB.databases()).length])()"""), ["", 0, 0, 0]
+    yield f"{address}: nothing is kept", browser.run("""(async () => {
+        while (app.fax) app.close();
+        await app.keeping.last;
+        return [document.cookie, localStorage.length, (await app.keeping.ask((store) => store.getAllKeys())).length,
+            Object.keys(sessionStorage).filter((it) => !it.startsWith("faxpages-"))];
+    })()"""), ["", 0, 0, []]
     errors = [it["params"] for it in browser.events if it["method"] == "Runtime.exceptionThrown"]
     yield f"{address}: no error", [json.dumps(it)[:300] for it in errors], []
 

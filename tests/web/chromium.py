@@ -65,6 +65,10 @@ class Chromium(Browser):
         self._session = self.call("Target.attachToTarget", targetId=target, flatten=True)["sessionId"]
         for domain in ("Page", "Runtime", "Network", "Log", "DOM"):
             self.call(f"{domain}.enable")
+        # What is saved would wait for somebody to say where.
+        session, self._session = self._session, None
+        self.call("Browser.setDownloadBehavior", behavior="deny")
+        self._session = session
         self.resize(*size)
 
     def resize(self, width: int, height: int) -> None:

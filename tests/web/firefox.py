@@ -18,11 +18,15 @@ from tests.web.browser import MOST, Browser, Failed, memory_of
 # It asks nothing of anybody, and keeps what it draws as it is.
 SETTINGS: dict[str, object] = {
     "app.normandy.enabled": False, "app.update.disabledForTesting": True,
-    "browser.safebrowsing.downloads.enabled": False, "browser.safebrowsing.malware.enabled": False, "browser.safebrowsing.phishing.enabled": False,
+    "browser.safebrowsing.downloads.enabled": False, "browser.safebrowsing.malware.enabled": False,
+    "browser.safebrowsing.phishing.enabled": False,
     "browser.shell.checkDefaultBrowser": False, "browser.startup.page": 0, "browser.aboutwelcome.enabled": False,
     "datareporting.policy.dataSubmissionEnabled": False, "extensions.update.enabled": False,
     "layout.css.devPixelsPerPx": "1.0", "network.captive-portal-service.enabled": False,
     "network.connectivity-service.enabled": False, "network.dns.disablePrefetch": True,
+    # What is saved is saved: no PDF is opened in a page that hides the one which is tried.
+    "browser.download.alwaysOpenPanel": False, "pdfjs.disabled": True, "browser.helperApps.neverAsk.saveToDisk":
+        "application/pdf,image/tiff,image/png,image/x-portable-bitmap,text/plain",
     "services.settings.server": "data:,", "toolkit.telemetry.enabled": False, "toolkit.telemetry.server": "data:,",
 }
 CONTROL = "\ue009"

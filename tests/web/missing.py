@@ -1,5 +1,5 @@
-"""What the page says and shows of a fax of which rows are missing: how many, beside `faxpages salvage`; that nothing which
-is found is hidden; bare data, whose coding is guessed; and files that are cut where no row is."""
+"""What the page says and shows of a fax of which rows are missing: how many, beside `faxpages salvage`; that nothing
+which is found is hidden; bare data, whose coding is guessed; and files that are cut where no row is."""
 
 from __future__ import annotations
 
@@ -109,8 +109,8 @@ def reasons(browser: Browser, program: str, room: str) -> Generator[Claim, None,
         "call.tif": (bytes(empty), "Page 2 cannot be read: no row of it was received.", "damaged"),
         "cut.tif": (fax[:last + 20], "After page 1 nothing more is found: the end of the file is missing.", "damaged"),
         "other.bin": (b"\0\1\xfe" * 30, "This file cannot be read as a fax: it is no TIFF file.", "damaged"),
-        "fax.eml": (mail, "This is no fax that is read here, but a mail. The fax may be attached to it: save it from the "
-                          "mail first, and open what you saved.", "left"),
+        "fax.eml": (mail, "This is no fax that is read here, but a mail. The fax may be attached to it: save it from "
+                          "the mail first, and open what you saved.", "left"),
         "letter.txt": (b"Dear all,\n", "This is no fax that is read here, but text. A text editor opens it.", "left"),
     }
     for name, (data, said, look) in tried.items():
@@ -153,7 +153,7 @@ def folded(browser: Browser, program: str, room: str) -> Generator[Claim, None, 
 
 
 def reached(browser: Browser, program: str, room: str) -> Generator[Claim, None, None]:
-    """However much is missing, Print and Save stand in the bar above the page, and are some steps of the Tab key away."""
+    """However much is missing, Print and Save stand in the bar above the page, some steps of the Tab key away."""
     verdict_of(browser, put(f"{room}/reached.tif", noisy(program, 9, [900, 900, 900], [200, 200, 200])))
     browser.until('document.getElementById("save").checkVisibility()')
     tops = browser.run("""["print", "save-make"].map((it) => {
@@ -270,7 +270,7 @@ def directory_of(data: bytes, place: int) -> bytes:
 
 
 def cut(browser: Browser, program: str, room: str) -> Generator[Claim, None, None]:
-    """A page of which all rows are found is whole, also where the file was cut: that is noted, and all pages are saved."""
+    """A page of which all rows are found is whole, also where the file was cut: that is noted, and all are saved."""
     images = [lines(40 + page, 60) for page in range(4)]
     data = fronted(program, images)
     for less in (1, 2):
@@ -292,8 +292,8 @@ def cut(browser: Browser, program: str, room: str) -> Generator[Claim, None, Non
     close_all(browser)
 
 
-BARE = """[app.fax.rows, app.fax.lostRows, app.fax.coded && [app.fax.coded.coding, app.fax.coded.order, app.fax.coded.width,
-    app.fax.coded.isFine], app.fax.isGuessed]"""
+BARE = """[app.fax.rows, app.fax.lostRows, app.fax.coded && [app.fax.coded.coding, app.fax.coded.order,
+    app.fax.coded.width, app.fax.coded.isFine], app.fax.isGuessed]"""
 
 
 def bare(browser: Browser, program: str, room: str) -> Generator[Claim, None, None]:

@@ -123,7 +123,9 @@ class Operator:
     # The steps. Each says what it did, or nothing where there is nothing to do.
 
     def open(self) -> str:
-        there = [path for path, content in self.disk.items() if content]
+        # What is open already with the same bytes is shown, and stands in the list once: that is tried in everyday.
+        there = [path for path, content in self.disk.items() if content and not any(
+            it.path == path and any(held is content for held in it.held) for it in self.opened)]
         count = min(self.draw.choice([1, 1, 2, 5, 12, 30]), MOST_OPEN - len(self.opened), len(there))
         if count < 1:
             return ""
