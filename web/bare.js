@@ -70,7 +70,9 @@ class Importing {
         const stride = (bare.width + 7) >> 3;
         const { pieces, fault } = await this.rowsOf(bare);
         const rows = pieces.length;
-        const all = bare.rows || rows + (fault ? 1 : 0);
+        // A raster of more rows than have room has those alone that were found, and the next one.
+        const hasRoom = bare.rows > 0 && bare.rows * stride <= Library.MOST_BYTES;
+        const all = hasRoom ? bare.rows : Math.min(Importing.MOST_ROWS, rows + (fault ? 1 : 0));
         const raster = source.room("left", Math.max(1, all) * stride);
         source.bytes(raster, all * stride).fill(0);
         pieces.forEach((piece, row) => source.bytes(raster + row * stride, stride).set(piece));
@@ -110,7 +112,7 @@ class Importing {
                 await this.pause();
             }
         }
-        return { pieces, fault: 0 };
+        return { pieces, fault: bare.rows ? 0 : Library.TOO_MANY_ROWS };
     }
 
     /** Where rows have no EOLs, the next one may begin on a byte, or is read as a strip's first.

@@ -210,7 +210,7 @@ class App {
     show(fax) {
         this.fax = fax;
         the("bare-said").textContent = "";
-        the("print-pages").value = "";
+        the("print-pages").value = the("printing").textContent = "";
         this.render();
         this.changed();
     }
@@ -524,11 +524,12 @@ class App {
             return;
         }
         const pages = Printing.chosen(the("print-pages").value, fax.shownPages());
-        if (pages) {
+        if (pages && pages.length <= Printing.MOST) {
             this.printing.print(fax, pages);
         } else {
-            this.printing.tell(say(TEXTS.printing.refused, fax.pages));
-            this.announce(say(TEXTS.printing.refused, fax.pages));
+            const said = pages ? say(TEXTS.printing.tooMany, Printing.MOST) : say(TEXTS.printing.refused, fax.pages);
+            this.printing.tell(said);
+            this.announce(said);
         }
     }
 

@@ -16,8 +16,9 @@ class Library {
     static NO_ROOM = 5;
     static TOO_LARGE = 8;
     static DATA_END = 9;
-    /** The number of a fault: the data end before their rows do. */
+    /** The numbers of two faults: the data end before their rows do, and a strip of unknown height has too many. */
     static DATA_ENDS = 101;
+    static TOO_MANY_ROWS = 108;
     static NO_STRIP = 4294967295;
     static RUNS = 65536;
     static ROWS = 4096;

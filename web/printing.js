@@ -5,6 +5,9 @@
  * sheet lies. Their pictures are there before the browser is asked to print.
  */
 class Printing {
+    /** So many pages are printed at once: their pictures are in memory. */
+    static MOST = 300;
+
     /** @param {View} view @param {{ box: HTMLElement, said: HTMLElement, cancel: HTMLElement }} parts
      * @param {(text: string) => void} announce */
     constructor(view, { box, said, cancel }, announce) {

@@ -314,6 +314,7 @@ const TEXTS = {
         works: "Preparing page {0} of {1} to be printed.",
         ready: "{0} prepared for the printer.",
         refused: "Say pages from 1 to {0}, as 1-3, 5.",
+        tooMany: "{0} pages are printed at once at most. Say which, as 1-{0}, or save the fax as PDF, and print that.",
         failed: "It was not printed: {0}.",
         cancelled: "It was not printed: it was cancelled.",
     },

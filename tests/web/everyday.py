@@ -3,7 +3,6 @@ with it, and many files are one list."""
 
 from __future__ import annotations
 
-import json
 import os
 from typing import Any, Generator
 
@@ -163,15 +162,15 @@ def saved(browser: Browser, program: str, room: str) -> Generator[Claim, None, N
 def noticed(browser: Browser, program: str, room: str) -> Generator[Claim, None, None]:
     """What was done is seen, and not only read aloud."""
     opened(browser, SAMPLE)
-    browser.run("app.notify('Page 1 was copied as a picture.')")
+    browser.run("""window.ClipboardItem = class { constructor(parts) { this.parts = parts; } };
+        Object.defineProperty(navigator, "clipboard", { configurable: true,
+            value: { write: async ([item]) => { await item.parts["image/png"]; } } });
+        app.copy()""")
     yield "it is seen", browser.run('[document.getElementById("seen").checkVisibility(), '
                                     'document.getElementById("seen").textContent, '
                                     'document.getElementById("said").textContent]'), [
         True, "Page 1 was copied as a picture.", "Page 1 was copied as a picture."]
-    source = browser.run("String(App.prototype.copy)")
-    yield "so is a copy", source.count("this.notify("), 2
     browser.run("document.getElementById('close-all').click()")
-    yield "all is closed", json.dumps(browser.run("app.faxes.length")), "0"
 
 
 def kept(browser: Browser, program: str, room: str) -> Generator[Claim, None, None]:

@@ -350,7 +350,11 @@ def asked(browser: Browser, program: str, room: str) -> Generator[Claim, None, N
     browser.until('app.fax.state === "done" && app.fax.coded.coding === 2')
     said = browser.run("app.fax.verdict()")
     yield f"MH read as MR: {said}", ("whole" in said, said.startswith("No row is found as you said")), (False, True)
-    yield "nothing is saved of it", browser.run('document.getElementById("save").hidden'), True
+    yield "nothing is saved of it", browser.until('!app.isDue && document.getElementById("save").hidden'), True
+    yield "more rows than a page may have are not called whole", verdict_of(
+        browser, put(f"{room}/rows.g4", b"\1" + b"\xff" * 1000000)), (
+            "The first 1,000,000 rows are found; what follows them is missing: it is longer than any fax page. How many "
+            "rows that is, bare data do not say.", "damaged")
     for name, content in (("noise.bin", random.Random(3).randbytes(20000)), ("zeros.bin", bytes(5000))):
         yield f"{name} is taken for no fax", verdict_of(browser, put(f"{room}/{name}", content))[0], (
             "This file cannot be read as a fax: it is no TIFF file.")

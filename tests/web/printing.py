@@ -113,6 +113,17 @@ def chosen(browser: Browser, room: str) -> Generator[Claim, None, None]:
     browser.run('document.getElementById("print-pages").value = ""')
 
 
+def many(browser: Browser, program: str, room: str) -> Generator[Claim, None, None]:
+    """More pages than have room in memory are not printed at once: it is said what to do."""
+    opened(browser, put(f"{room}/many.tif", faxes.convert(program, faxes.image("marks", 3) * 301, "-o", "mmr")))
+    browser.run('document.getElementById("print").click()')
+    yield "301 pages are too many", browser.run('[document.getElementById("printing").textContent, asked]'), [
+        "300 pages are printed at once at most. Say which, as 1-300, or save the fax as PDF, and print that.", 0]
+    browser.run("""document.getElementById("print-pages").value = "298-301"; document.getElementById("print").click()""")
+    asked(browser)
+    yield "some of them are printed", len(browser.printed()) > 0, True
+
+
 def fitted(browser: Browser, program: str, room: str) -> Generator[Claim, None, None]:
     """On each sheet a page is as large as it was sent, or as large as the sheet, and lies as the sheet does."""
     if lacks_poppler():
@@ -174,4 +185,4 @@ def in_sight(browser: Browser, _program: str, room: str) -> Generator[Claim, Non
     browser.run("while (app.fax) app.close()")
 
 
-PARTS: list[Any] = [all_pages, fitted, whole, in_sight]
+PARTS: list[Any] = [all_pages, many, fitted, whole, in_sight]
