@@ -41,14 +41,16 @@ class Importing {
     async bare(bare) {
         const isAlone = bare.coding === Library.MMR ? bare.isAligned : !bare.hasEols;
         const found = isAlone ? await this.rowByRow(bare) : this.salvaged(bare);
-        const name = found.fault ? this.source.name("fault", found.fault) : "";
         if (found.rows === 0) {
+            const name = this.source.name("fault", found.fault);
             return { library: null, left: null, coded: bare, told: { rows: 0, name } };
         }
         // What follows the last row that was looked at is in no number of rows where nobody counted them.
         const isOpen = !bare.rows && found.fault !== 0 && (isAlone || bare.coding === Library.MMR);
         const coded = { ...bare, isFine: bare.isFine ?? (isOpen || found.all >= Importing.FINE) };
         const form = Wrapping.wrap(this.source, found.strip, coded, found.all);
+        // A name takes the place of what was coded last: the strip was copied before.
+        const name = found.fault ? this.source.name("fault", found.fault) : "";
         const left = found.raster ? new Left(this.source, form, found.raster, found.stretches) : null;
         return { library: this.source, left, coded, told: { rows: found.rows, name, isOpen } };
     }

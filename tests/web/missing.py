@@ -362,4 +362,32 @@ def asked(browser: Browser, program: str, room: str) -> Generator[Claim, None, N
             'document.getElementById("bare-open").checkVisibility()'), True
 
 
-PARTS: list[Any] = [counts, reasons, folded, reached, marks, averaged, cut, bare]
+def without_eols(browser: Browser, program: str, room: str) -> Generator[Claim, None, None]:
+    """Bare data in MH without EOLs, whole and cut: each row that is found is the row that was sent, and what follows is
+    said to be missing."""
+    image = lines(81, 60)
+    data = faxes.convert(program, image, "-o", "mh")
+    ((place, size),) = strips(data)
+    bits = "".join(f"{byte:08b}" for byte in data[place:place + size]).replace("000000000001", " ").split()
+    sent = "".join(bits[:60])
+    ((_, _, wanted),) = faxes.pels_of_pbm(image)
+    for name, text in (("whole", sent), ("cut", sent[:len(sent) // 2])):
+        count = -(-len(text) // 8)
+        path = put(f"{room}/without-eols-{name}.bin", int(text.ljust(8 * count, "0"), 2).to_bytes(count, "big"))
+        said, look = verdict_of(browser, path)
+        found, lost, coded, is_guessed = browser.run(BARE)
+        yield f"{name}: how it is read", (coded[:3], is_guessed), ([1, 1, WIDTH], True)
+        _, high, pels = faxes.pels_of_png(saving.made(browser, "png")[0])
+        # In standard resolution each row stands twice in the picture.
+        times = high // (found + lost)
+        rows = [pels[times * row * WIDTH:(times * row + 1) * WIDTH] for row in range(found + lost)]
+        yield f"{name}: the rows that are found", b"".join(rows[:found]) == wanted[:found * WIDTH], True
+        yield f"{name}: the others are grey", set(b"".join(rows[found:])), {2} if lost else set()
+        yield f"{name}: the report says so", browser.run("app.fax.report.fault && app.fax.report.fault.row"), (
+            found if lost else None)
+        yield f"{name}: {said}", (found == 60, look, said.startswith(f"The first {found} rows are found")), (
+            (True, "whole", False) if name == "whole" else (False, "damaged", True))
+    close_all(browser)
+
+
+PARTS: list[Any] = [counts, reasons, folded, reached, marks, averaged, cut, bare, without_eols]
