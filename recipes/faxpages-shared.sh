@@ -31,13 +31,15 @@ missing() {
     return 1
 }
 
-# Why a file cannot be read, in the system's words.
+# Why a file cannot be read: it is no file, or of more bytes than are read, or what the system says.
 reason() {
+    case $1 in /*) ;; *) set -- "./$1" ;; esac # no option
     if [ -e "$1" ] && [ ! -f "$1" ]; then
         echo 'not a regular file'
+    elif [ "$(stat -L -c %s "$1" 2>/dev/null || echo 0)" -gt 268435456 ]; then
+        echo 'larger than 256 MiB'
     else
-        # By cat, since shells have other words; and by a name that is no option.
-        case $1 in /*) set -- "$1" ;; *) set -- "./$1" ;; esac
+        # By cat, since shells have other words.
         { cat "$1" >/dev/null; } 2>&1 | sed -n '$s/.*: //p'
     fi
 }

@@ -15,6 +15,8 @@ from tests.recipes.recipes import ROOT, SCRIPTS
 from tests.recipes.room import UNREADABLE, WIDTH, Room, Tests
 
 SIZE = "64k"
+# A terabyte, of which the disk has no block.
+LARGE = 1 << 40
 
 
 def cannot_mount(room: Room) -> str:
@@ -85,11 +87,15 @@ def unread(room: Room, _: str) -> Iterator[Claim]:
     """Of a file that cannot be read each script gives the reason, and status 3."""
     os.mkdir(room("folder.tif"))
     os.symlink(UNREADABLE, room("unread.tif"))
+    # Of so many bytes none may be read, if all is to end today.
+    room.put("large.tif", b"")
+    os.truncate(room("large.tif"), LARGE)
     room.fax("good.tif", "mh", "marks")
     reasons = {
         "none.tif": "No such file or directory",
         "folder.tif": "not a regular file",
         "unread.tif": "fault: Read: Input/output error",
+        "large.tif": "fault: Read: larger than 256 MiB",
     }
     for name, reason in reasons.items():
         for script, *words in (["html"], ["picture", "0"], ["salvage", "salvaged"], ["mail", "a@b.c"]):
@@ -105,6 +111,12 @@ def unread(room: Room, _: str) -> Iterator[Claim]:
         fax = UNREADABLE if name == "unread.tif" else name  # a link stays for another reason
         said = f"faxpages-receive: {fax if fax == UNREADABLE else f'./{fax}'} stays: {reason}\n"
         yield f"receive {name}", room.call("faxpages-receive", fax, "sorted"), (3, b"", said)
+    room.bash("mkdir tree; touch -d '1 hour ago' large.tif; ln large.tif tree")
+    yield "sweep", room.call("faxpages-sweep", "tree", "state")[:2], (
+        1,
+        b"not read: ./tree/large.tif: fault: Read: larger than 256 MiB\n"
+        b"new: 1 faxes, 0 good, 0 faulty, 1 not read; in all: 0\n",
+    )
     yield "nothing is left", (room.left(), room.names("sorted/good"), room.names("sorted/faulty")), ([], [], [])
 
 
