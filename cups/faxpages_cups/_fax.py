@@ -45,21 +45,22 @@ class Form(NamedTuple):
 
 
 class Device(NamedTuple):
-    """Where faxes go: the folder, whether they are handed to HylaFAX from there, and whether a title may name the
-    number: the title of a document is often its author's, who may be a stranger."""
+    """Where faxes go: the folder, whether they are handed to HylaFAX from there, whether a title may name the number,
+    since the title of a document is often its author's, who may be a stranger, and whether others may read them."""
 
     folder: str
     to_hylafax: bool
     by_title: bool
+    is_public: bool
 
     @classmethod
     def of(cls, uri: str) -> Device:
-        """The device of `faxpages:/folder`, after which `?sendfax`, `?title` or both may stand."""
+        """The device of `faxpages:/folder`, after which `?` and some of the words may stand, with `&` between them."""
         found = re.fullmatch(r"faxpages:(?://)?(/[^?]+?)/?(?:\?([a-z&]+))?", uri)
         words = set((found.group(2) or "").split("&")) - {""} if found else set()
-        if not found or words - {"sendfax", "title"}:
-            raise Refused("the device is faxpages:/FOLDER, and ?sendfax, ?title or ?sendfax&title may follow")
-        return cls(unquote(found.group(1)), "sendfax" in words, "title" in words)
+        if not found or words - {"sendfax", "title", "public"}:
+            raise Refused("the device is faxpages:/FOLDER, and ?sendfax, ?title, ?public or some with & may follow")
+        return cls(unquote(found.group(1)), "sendfax" in words, "title" in words, "public" in words)
 
 
 def number_of(job: Job, by_title: bool) -> str:
@@ -242,7 +243,7 @@ def hand_on(job: Job, data: bytes) -> None:
     """Hands a job on, once."""
     device, identity = Device.of(os.environ.get("DEVICE_URI", "")), Identity.of(job)
     seconds = seconds_of(SECONDS)
-    with Spool(device.folder, str(identity), identity.uuid) as spool:
+    with Spool(device.folder, str(identity), identity.uuid, device.is_public) as spool:
         if spool.is_done():
             say("INFO", "the fax was handed on before, and is not once more")
             return

@@ -25,10 +25,11 @@ _DOCUMENT = re.compile(r"(.+)\.part(?:-[0-9]+)?\.pdf")
 
 class Spool:
     """A folder for faxes, for one job. Of all files there it writes, and deletes, those of its name alone. Versions
-    before 1.6 knew a job by an older name."""
+    before 1.6 knew a job by an older name. Others than the folder's user and group may read its files only if they are
+    public."""
 
-    def __init__(self, folder: str, name: str, older: str) -> None:
-        self._path, self._name, self._older = folder, name, older
+    def __init__(self, folder: str, name: str, older: str, is_public: bool = False) -> None:
+        self._path, self._name, self._older, self._is_public = folder, name, older, is_public
         self._folder = self._kept = self._lock = -1
 
     def __enter__(self) -> Spool:
@@ -179,11 +180,16 @@ class Spool:
         self._remove(kind)
         place = os.open(f"{self._name}.{kind}", os.O_WRONLY | os.O_CREAT | os.O_EXCL, 0o660, dir_fd=self._kept)
         with open(place, "wb") as file:
-            # Who may read and write the folder's files may do so with these, whatever CUPS's mask of modes.
-            os.fchmod(place, os.fstat(self._folder).st_mode & 0o666)
+            os.fchmod(place, self._mode())
             file.write(data)
             file.flush()
             os.fsync(place)
+
+    def _mode(self) -> int:
+        """Who may read and write a file, whatever CUPS's mask of modes: as the folder says, where it is closed to
+        others. A folder that is open to them says nothing of faxes, which are confidential."""
+        mode = os.fstat(self._folder).st_mode
+        return mode & 0o666 if self._is_public or not mode & stat.S_IRWXO else 0o600
 
     def _remove(self, kind: str) -> None:
         try:

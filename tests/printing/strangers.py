@@ -265,6 +265,20 @@ def kept_by_others(room: Room) -> None:
         room.claim(f"kept by {owner}, {mode:o}: {said}", (status, "open to others" in said), (0 if right else 3, not right))
 
 
+def readers(room: Room) -> None:
+    """Who may read faxes: as the folder says where it is closed to others; others only where the device says so."""
+    pdf = room.made("gs-1.pdf")
+    for mode, words, wanted in ((0o2770, "title", 0o660), (0o750, "title", 0o640), (0o755, "title", 0o600),
+                                (0o2775, "title", 0o600), (0o755, "title&public", 0o644),
+                                (0o2770, "public&title", 0o660)):  # fmt: skip
+        folder = room.new_spool(f"read-{mode:o}-{words}")
+        os.chmod(folder, mode)
+        option, name = new_identity(room)
+        status, _, said = by_hand(room, True, option, pdf, {"DEVICE_URI": f"faxpages:{folder}?{words}"})
+        modes = {os.stat(f"{folder}/{name}.{kind}").st_mode & 0o777 for kind in ("tif", "job")} if status == 0 else said
+        room.claim(f"a folder of mode {mode:o}, ?{words}: {said}", modes, {wanted})
+
+
 def folders(room: Room) -> None:
     """Folders that are not there, are not the user's, or are anyone's; and files in the way, which stay."""
     pdf, base = room.made("gs-1.pdf"), room.server.folder
@@ -305,4 +319,5 @@ def play(room: Room) -> None:
     documents(room)
     endless(room)
     kept_by_others(room)
+    readers(room)
     folders(room)
