@@ -89,3 +89,87 @@ as_private_as() {
         umask "$(printf '%o' $((0$(umask) | hidden)))" || return
     done
 }
+
+# The bounds of what reads strangers' files: the seconds of the processor that a call may take, and the memory of each
+# program that it starts.
+cpu_seconds=${FAXPAGES_CPU_SECONDS-600}
+memory_mib=${FAXPAGES_MEMORY_MIB-2048}
+seconds_left=$cpu_seconds
+
+# Says which of these is no number; fails where both are.
+wrong_bound() {
+    for bound in "$cpu_seconds" "$memory_mib"; do
+        case $bound in
+        '' | 0* | *[!0-9]* | ????????*)
+            echo "FAXPAGES_CPU_SECONDS and FAXPAGES_MEMORY_MIB are numbers from 1 to 9999999, and not '$bound'"
+            return
+            ;;
+        esac
+    done
+    return 1
+}
+
+# Runs a program within the bounds. The shell would say by which signal it ended: met_bound does.
+#   bounded PROGRAM WORD..
+bounded() (
+    lower -t "$seconds_left"
+    lower -v $((memory_mib * 1024))
+    exec 3>&2 2>/dev/null
+    "$@" 2>&3 3>&- || exit
+)
+
+seconds_allowed() {
+    echo "$cpu_seconds"
+}
+
+# Whether a call may take more seconds than these.
+allows_more_than() {
+    [ "$1" -lt "$cpu_seconds" ]
+}
+
+# Runs another of the scripts, with the seconds that this one has left: with_rest SCRIPT WORD..
+with_rest() {
+    FAXPAGES_CPU_SECONDS=$seconds_left "$@"
+}
+
+# Lowers a limit, where it is not as low: lower OPTION LIMIT.
+# shellcheck disable=SC3045 # Shells of Debian have soft and hard limits.
+lower() {
+    for limit in "$(ulimit -S "$1")" "$(ulimit -H "$1")"; do
+        [ "$limit" = unlimited ] || [ "$limit" -gt "$2" ] || return 0
+    done
+    ulimit -S "$1" "$2"
+}
+
+# Counts the seconds that the programs have taken so far which this shell started, and fails where none are left: it
+# takes a folder for a file.
+#   spend FOLDER
+spend() {
+    times >"$1/times" || return
+    {
+        read -r _
+        read -r user system
+    } <"$1/times"
+    user=$((${user%%m*} * 60 + $(whole "$user")))
+    system=$((${system%%m*} * 60 + $(whole "$system")))
+    seconds_left=$((cpu_seconds - user - system))
+    [ "$seconds_left" -gt 0 ]
+}
+
+# The whole seconds of 1m2.345s.
+whole() {
+    set -- "${1#*m}"
+    echo "${1%%[.,]*}"
+}
+
+# What a program has said that failed, or which bound it has met.
+#   told STATUS FILE
+told() {
+    if [ "$1" = 152 ]; then # SIGXCPU
+        echo "it takes more than $cpu_seconds seconds of the processor; FAXPAGES_CPU_SECONDS can allow more"
+    elif [ "$(tail -n 1 "$2")" = 'fault: Memory' ]; then
+        echo "fault: Memory, where FAXPAGES_MEMORY_MIB allows $memory_mib"
+    else
+        cat "$2"
+    fi
+}

@@ -21,8 +21,9 @@ EARLY = {"readlink"}
 ELSEWHERE = {"python3"}
 # Shells, which have the same path everywhere.
 SHELLS = {"sh", "bash", "dash", "rbash"}
-# A link, in whose place a copy is made; a file that is opened, of which `reason` is asked next; numbers of a cut file.
-SAID_ELSEWHERE = r"! ln |\{ true <|^od -A n "
+# A link, in whose place a copy is made; a file that is opened, of which `reason` is asked next; numbers of a cut file;
+# by which signal a program ended, which `told` says.
+SAID_ELSEWHERE = r"! ln |\{ true <|^od -A n |^exec 3>&2 "
 NOTING = """#!/bin/sh
 echo {name} >>"$CALLED"
 exec {path} "$@"
