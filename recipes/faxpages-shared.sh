@@ -45,6 +45,11 @@ reason() {
     fi
 }
 
+# The title of a PDF of a fax: the file's name, in letters that each reader of PDFs shows.
+title_of() {
+    printf '%s' "${1##*/}" | LC_ALL=C tr -c ' -~' '?'
+}
+
 # Makes a folder FOLDER/NAME.XXXXXX of this call's own, whose path the variable has then. The descriptor locks it until
 # the call has ended, and all that it started. What killed calls left there is deleted.
 #   make_own VARIABLE DESCRIPTOR FOLDER/NAME

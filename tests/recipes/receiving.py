@@ -446,16 +446,23 @@ def mail_gateway(room: Room, commands: str) -> Iterator[Claim]:
     yield "good", room.bash(commands, **mailer), (0, b"", "")
     mail = message(room.get("mailed"))
     yield "good: to", (mail["To"], room.get("mailed-by")), ("office@example.org", b"-oi -t\n")
-    yield "good: subject", mail["Subject"].startswith("Fax, good: pages 5 rows "), True
-    yield "good: report", room.report("fax.tif").decode() in text_of(mail), True
+    rows = int(room.report("fax.tif").split()[-1])
+    yield "good: subject", mail["Subject"], f"Fax of 5 pages: whole, {rows:,} rows"
+    yield "good: text", text_of(mail).splitlines(), [f"{mail['Subject']}.", "", "File: fax.tif"]
     yield "good: files", [(it, data[:5]) for it, data in parts_of(mail).items()], [("fax.pdf", b"%PDF-")]
+    yield "good: title", title_in(room, mail), "fax.tif"
     room.sample("damaged-fourth-page.tif", "fax.tif")
     yield "faulty", room.bash(commands, **mailer)[::2], (1, "")
     mail = message(room.get("mailed"))
     parts = parts_of(mail)
     yield "faulty: files", (sorted(parts), parts["fax.tif"]), (["fax.pdf", "fax.tif"], room.get("fax.tif"))
-    lost = "numbered from 1 (above, faxpages check numbers them from 0):\npage 4 rows 6 to 11: OutOfRow\n"
-    yield "faulty: lost", lost in text_of(mail).replace("\r", ""), True
+    yield "faulty: subject", mail["Subject"], "Fax of 4 pages: 6 of 44 rows are missing"
+    yield "faulty: text", text_of(mail).splitlines()[:5], [
+        f"{mail['Subject']}.", "", "File: fax.tif", "Missing, with pages and rows numbered from 1:",
+        "page 4 rows 6 to 11: OutOfRow"]  # fmt: skip
+    yield "faulty: no numbers from 0, and of another fax", re.findall("page 3|row 5|1,000|343", text_of(mail)), []
+    yield "faulty: title", title_in(room, mail), "fax.tif"
+    yield from summed_up(room, commands, mailer)
     yield from mailed_of_other_kinds(room, commands, mailer)
     for name in [*HOSTILE, "\nBcc: all@example.org\n\n.tif"]:
         room.others(name)
@@ -472,6 +479,41 @@ def mail_gateway(room: Room, commands: str) -> Iterator[Claim]:
     yield "nothing is left", room.left(), []
 
 
+def title_in(room: Room, mail: email.message.EmailMessage) -> str:
+    """The title of the PDF in a mail."""
+    room.put("mailed.pdf", parts_of(mail)["fax.pdf"])
+    ran = room.call("pdfinfo", "mailed.pdf")[1].decode()
+    return found(r"Title: *(.*)", ran).group(1)
+
+
+def summed_up(room: Room, commands: str, mailer: dict[str, str]) -> Iterator[Claim]:
+    """What the subject says of little damage, of a cut fax, and of one of which nothing is left; and notes, from 1."""
+    notes = room.get("fax.tif")
+    room.sample("received/over-a-noisy-line.tif", "noisy.tif")
+    room.sample("damaged-fourth-page.tif", "cut.tif")
+    room.put("cut.tif", room.get("cut.tif")[:300])
+    room.put("nothing.tif", b"II*\0\0\0\0\0")
+    room.sample("second-row-missing.tif", "missing.tif")
+    wanted = {
+        "noisy.tif": "Fax of 1 page: readable, 8 of 340 rows are missing",
+        "cut.tif": "Fax of 1 page or more: readable, what follows is missing",
+        "nothing.tif": "Fax of 0 pages or more: nothing of it can be read",
+        "missing.tif": "Fax of 1 page: 1 of 2 rows is missing",
+    }
+    for name, subject in wanted.items():
+        shutil.copy(room(name), room("fax.tif"))
+        yield f"{name}: mailed", room.bash(commands, **mailer)[::2], (1, "")
+        mail = message(room.get("mailed"))
+        yield f"{name}: subject", (mail["Subject"], text_of(mail).splitlines()[0]), (subject, f"{subject}.")
+    room.sample("return-to-control.tif", "fax.tif")
+    yield "notes: mailed", room.bash(commands, **mailer)[::2], (0, "")
+    noted = [line for line in room.report("fax.tif").decode().splitlines() if line.startswith("note ")]
+    told = [line for line in text_of(message(room.get("mailed"))).splitlines() if line.startswith("note ")]
+    counted = [re.sub(r"(?<=page |trip )(\d+)", lambda it: str(int(it.group()) + 1), line) for line in noted]
+    yield "notes: from 1", (told, len(told) > 0), (counted, True)
+    room.put("fax.tif", notes)
+
+
 def mailed_of_other_kinds(room: Room, commands: str, mailer: dict[str, str]) -> Iterator[Claim]:
     """Sound files that are no faxes read here are mailed as they are, and nobody calls them faulty."""
     for name, kind, status in other_kinds(room, "kinds"):
@@ -479,8 +521,9 @@ def mailed_of_other_kinds(room: Room, commands: str, mailer: dict[str, str]) -> 
         yield f"{name}: mailed", (status, room.bash(commands, **mailer)), (0, (1, b"", ""))
         mail = message(room.get("mailed"))
         (part,) = mail.iter_attachments()
-        yield f"{name}: subject", mail["Subject"].startswith("Fax, none that is read here: "), True
-        yield f"{name}: told", f"It is no fax that is read here, but {kind}.\n" in text_of(mail).replace("\r", ""), True
+        yield f"{name}: subject", mail["Subject"], f"Not a fax that is read here: {kind}"
+        yield f"{name}: told", text_of(mail).startswith(f"Not a fax that is read here: {kind}."), True
+        yield f"{name}: its fault, from 1", re.findall("fault page 1( row 1)?:", text_of(mail)) != [], True
         data = part.get_payload(decode=True)
         wanted = ("application/pdf" if kind == "a PDF" else "image/tiff", room.get(name))
         yield f"{name}: attached", (part.get_content_type(), data), wanted
@@ -773,7 +816,7 @@ TESTS: Tests = {
     "Sort faxes as they come in": (["cmp", "tiffcp"], receive),
     "HylaFAX": (["tiff2pdf", f"{HYLAFAX}/bin/faxrcvd", tool_of("faxinfo") or "faxinfo"], hylafax),
     "Asterisk": ([], asterisk),
-    "A mail gateway": (["tiff2pdf", "tiffcp", "pnmtopng", "base64"], mail_gateway),
+    "A mail gateway": (["tiff2pdf", "tiffcp", "pnmtopng", "base64", "pdfinfo"], mail_gateway),
     "Sweep an archive by cron": (["find", "flock"], sweep),
     "Sweep an archive by a systemd timer": (["systemd-analyze", "flock"], sweep_by_timer),
 }
