@@ -8,6 +8,7 @@ _faxpages_command_options() {
     faxpages-archive-table) echo --csv --json --summary --prometheus --faulty ;;
     faxpages-compare) echo --replace ;;
     faxpages-from-pdf) echo --standard --as-is --coding --width --replace ;;
+    faxpages-hylafax) echo --remove ;;
     faxpages-sweep) echo --gone ;;
     esac
 }
@@ -41,5 +42,5 @@ _faxpages_command() {
     fi
 }
 
-complete -F _faxpages_command faxpages-archive faxpages-compare faxpages-from-pdf faxpages-html faxpages-mail \
-    faxpages-picture faxpages-receive faxpages-salvage faxpages-sweep
+complete -F _faxpages_command faxpages-archive faxpages-compare faxpages-from-pdf faxpages-html faxpages-hylafax \
+    faxpages-mail faxpages-picture faxpages-receive faxpages-salvage faxpages-sweep

@@ -38,7 +38,7 @@ def prepare(room: Room) -> None:
     for sample, names in SAMPLES.items():
         for name in names:
             room.sample(f"{sample}.tif", f"{name}.tif")
-    room.bash("touch -d '1 hour ago' archive/*.tif")
+    room.bash("touch -d '1 hour ago' archive/*.tif; mkdir -p etc/templates/en")
     room.fax("source.tif", "mmr", "marks", 100)
     room.bash("img2pdf --output letter.pdf source.tif; cp letter.pdf received.pdf")
     room.tool("sendmail", '#!/bin/sh\ncat >"$HOME/mailed"\n')

@@ -330,8 +330,10 @@ def hylafax(room: Room, commands: str) -> Iterator[Claim]:
     room.tool("sendmail", MAILER.replace("mailed", 'mailed-$(ls "$HOME" | wc -l)', 1))
     room.put("spool/etc/setup.cache", SETUP.format(room=room.path, sbin=f"{room.path}/bin").encode())
     room.tool("faxinfo", f"#!/bin/sh\nexec {tool_of('faxinfo')} \"$@\"\n")
-    yield "run", room.bash(f"cd spool/etc\n{commands}")[::2], (0, "")
-    room.put("spool/etc/FaxDispatch", b"SENDTO=office\nFILETYPE=pdf\n" + room.get("spool/etc/FaxDispatch"))
+    room.put("spool/etc/FaxDispatch", b"SENDTO=office\nFILETYPE=pdf\n")
+    commands = commands.replace(f"{HYLAFAX}/etc", room("spool/etc"))
+    yield "run", room.bash(commands), (0, b"", "")
+    yield "again", room.bash(commands), (0, b"", "")
     for kind, sample in (("good", ""), ("faulty", "damaged-fourth-page.tif"),
                          ("noisy", "received/over-a-noisy-line.tif")):  # fmt: skip
         name = f"spool/recvq/{kind}.tif"
