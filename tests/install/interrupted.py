@@ -1,9 +1,9 @@
 """Interrupts that come to faxpages-archive while it starts: it ends by them, and prints no traceback.
 
-    interrupted.py starts|loads COMMAND
+    interrupted.py starts|begins|loads COMMAND
 
-starts: at times from its first instant on, also while Python itself starts. loads: while it loads modules, as pip's own
-commands can have it. Ends with status 0 where each run has ended so, and an interrupt has met each kind of time."""
+starts: at times from its first instant on, also while Python itself starts. begins: at times from the first instant of
+Python on. loads: while it loads modules, as pip's own commands can have it. FAXPAGES_RUNS says how many runs. Ends with status 0 where each run has ended so, and an interrupt has met each kind of time."""
 
 from __future__ import annotations
 
@@ -15,7 +15,9 @@ import time
 from functools import partial
 from typing import Callable
 
-RUNS = 60
+RUNS = int(os.environ.get("FAXPAGES_RUNS", "60"))
+# How long Python takes to begin with the command's own lines, and some more.
+BEGINS = 0.03
 PATIENCE = 900
 
 
@@ -43,6 +45,21 @@ def loading(process: subprocess.Popen[str]) -> None:
         pass
 
 
+def beginning(seconds: float, process: subprocess.Popen[str]) -> None:
+    """Waits until the process is Python's, and then for so long."""
+    while process.poll() is None and not program_of(process).startswith("python"):
+        pass
+    time.sleep(seconds)
+
+
+def program_of(process: subprocess.Popen[str]) -> str:
+    """The name of the program that a process runs; nothing where it has ended."""
+    try:
+        return os.path.basename(os.readlink(f"/proc/{process.pid}/exe"))
+    except OSError:
+        return ""
+
+
 def sleeping(seconds: float, _: subprocess.Popen[str]) -> None:
     """Waits for so long."""
     time.sleep(seconds)
@@ -63,6 +80,8 @@ def main() -> int:
     whole = seconds_of(command)
     if way == "loads":
         got = [interrupted(command, loading) for _ in range(RUNS)]
+    elif way == "begins":
+        got = [interrupted(command, partial(beginning, BEGINS * at / RUNS)) for at in range(RUNS)]
     else:
         got = [interrupted(command, partial(sleeping, whole * at / RUNS)) for at in range(RUNS)]
     # One that comes after its end finds it ended; so does one that has nothing to be printed any more.

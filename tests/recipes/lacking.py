@@ -54,6 +54,9 @@ CALLS = {
     "a picture by mail": Call("faxpages-mail", ("picture.tif", "a@b.c"), 3),
     "a fax that came": Call("faxpages-receive", ("came.tif", "sorted"), 3, "rm -rf sorted; cp good.tif came.tif"),
     "a picture that came": Call("faxpages-receive", ("picture.tif", "sorted"), 3, "rm -rf sorted"),
+    "HylaFAX": Call("faxpages-hylafax", ("etc",), 3, "rm -rf etc; mkdir -p etc/templates/en; touch etc/templates/en/a.txt"),
+    "HylaFAX again": Call("faxpages-hylafax", ("etc",), 3),
+    "HylaFAX, taken back": Call("faxpages-hylafax", ("--remove", "etc"), 3, "faxpages-hylafax etc"),
     "a sweep": Call("faxpages-sweep", ("tree", "state", "figures"), 3, "rm -rf state figures"),
 }
 
