@@ -4,11 +4,12 @@
 _faxpages_command_options() {
     case $1 in
     faxpages-archive-check) echo --table --dask --scheduler --processes --timeout --again --share --follow --gone --names --faults-ok --lost ;;
-    faxpages-archive-convert) echo --to --order --k --strip --align --fields --adopt --delete --give-up --table --dask --scheduler --processes --timeout --again --share --follow --gone --names --faults-ok ;;
+    faxpages-archive-convert) echo --to --order --k --strip --align --fields --adopt --delete --all-or-nothing --give-up --table --dask --scheduler --processes --timeout --again --share --follow --gone --names --faults-ok ;;
     faxpages-archive-table) echo --csv --json --summary --prometheus --faulty ;;
     faxpages-compare) echo --replace ;;
     faxpages-from-pdf) echo --standard --as-is --coding --width --replace ;;
     faxpages-hylafax) echo --remove ;;
+    faxpages-receive) echo --whole ;;
     faxpages-sweep) echo --gone ;;
     esac
 }

@@ -16,7 +16,7 @@ complete -c faxpages-archive -n '__fish_seen_subcommand_from convert' -l order -
 for option in k strip give-up
     complete -c faxpages-archive -n '__fish_seen_subcommand_from convert' -l $option -x
 end
-for option in align fields adopt delete
+for option in align fields adopt delete all-or-nothing
     complete -c faxpages-archive -n '__fish_seen_subcommand_from convert' -l $option
 end
 for option in csv json summary prometheus faulty
@@ -30,4 +30,5 @@ complete -c faxpages-from-pdf -l replace
 complete -c faxpages-from-pdf -l coding -x -a 'mh mr mmr'
 complete -c faxpages-from-pdf -l width -x -a '1728 2048 2432'
 complete -c faxpages-hylafax -l remove
+complete -c faxpages-receive -l whole
 complete -c faxpages-sweep -l gone

@@ -1,6 +1,6 @@
 # shellcheck shell=sh
-# For the other scripts here: which program is missing that one of them calls, why a file cannot be read, and folders
-# for what they make.
+# For the other scripts here: which program is missing that one of them calls, why a file cannot be read, whether it is
+# still coming in, and folders for what they make.
 
 # Debian's package of a program, or the one of ours.
 package_of() {
@@ -177,4 +177,37 @@ told() {
     else
         cat "$2"
     fi
+}
+
+# Why a file may still be coming in: it changed within the last minute, by its time of change, unless --whole says that
+# this does not count; or another program has it open to write, or has locked it. Fails where it is not coming in.
+# faxpages-archive has the same rule.
+#   incoming FILE [--whole]
+incoming() {
+    if [ "${2-}" != --whole ] &&
+        [ -n "$(find -L "$1" -prune -newermt '1 minute ago' ! -newermt '1 minute' 2>/dev/null)" ]; then
+        echo 'it changed within the last minute'
+    elif is_written "$1" 2>/dev/null; then
+        echo 'another program has it open to write, or has locked it'
+    else
+        return 1
+    fi
+}
+
+# Whether another program has a file open to write, or has locked it. The system grants no lease of such a file; where
+# there is no perl to ask for one, or none is granted to this user, the open files of all processes are looked at that
+# may be.
+is_written() {
+    flock -n -s -E 77 9 9<"$1"
+    [ $? != 77 ] || return 0
+    perl -e 'exit(fcntl(STDIN, 1024, 0) ? 0 : $! == 11 ? 77 : 1)' <"$1"
+    case $? in
+    0) return 1 ;;
+    77) return 0 ;;
+    esac
+    case $(find -L /proc/[0-9]*/fd -maxdepth 1 -samefile "$1" | sed 's|/fd/|/fdinfo/|' |
+        xargs -r sed -n 's/^flags:.*\(.\)$/\1/p') in
+    *[1256]*) return 0 ;;
+    esac
+    return 1
 }

@@ -91,12 +91,12 @@ def lied(room: Room, *_given: object) -> None:
 
 
 def deleted(room: Room, *_given: object) -> None:
-    """Faxes are deleted once all are copied and compared, and none before."""
+    """By --all-or-nothing faxes are deleted once all are copied and compared, and none before."""
     import faxpages
 
     paths = made.make(faxpages, room("from"), 60, 60)
     words = ["convert", "from", "mirror", "--to", "mmr", "--table", "mirror.sqlite", "--processes", "2", "--follow",
-             "--delete", "--give-up", "fields,bytes,data,private"]
+             "--delete", "--all-or-nothing", "--give-up", "fields,bytes,data,private"]
     kept = files_below(room("from"))
     status, _, error = room.run(*words)
     room.claim("a faulty fax: nothing is deleted", (status, "nothing is deleted" in error), (1, True))

@@ -14,6 +14,7 @@ import sqlite3
 import stat
 import subprocess
 import sys
+import time
 from unittest import mock
 
 from tests.archive.room import Part, Room
@@ -27,15 +28,18 @@ from tests.archive.room import CONNECT
 CALLS = 130
 
 TIME = 1_560_000_000_123_456_789
+# A fax that is younger than a minute may still be coming in.
+HOUR = 3_600_000_000_000
 
 
 def put(path: str, data: bytes, mode: int = 0o644, mtime: int | None = None) -> None:
+    """Writes a file with this time of change, or one of an hour ago."""
     os.makedirs(os.path.dirname(path), exist_ok=True)
     with open(path, "wb") as file:
         file.write(data)
     os.chmod(path, mode)
-    if mtime is not None:
-        os.utime(path, ns=(mtime, mtime))
+    when = time.time_ns() - HOUR if mtime is None else mtime
+    os.utime(path, ns=(when, when))
 
 
 def drawn() -> dict[str, bytes]:

@@ -14,6 +14,8 @@ HERE = os.path.dirname(os.path.abspath(__file__))
 
 from tests.convert import pages  # noqa: E402
 
+# A time of change that is long ago.
+OLD = 1_700_000_000
 HOSTILE = [b"caf\xe9.tif", b"a\nline.tif", b"a 'quote\", and more.TIFF", b"-o.tif", b"\xff\xfe.Tif",
            "päge.tif".encode()]
 
@@ -70,6 +72,8 @@ def make(faxpages: ModuleType, tree: str, count: int, of: int = 300,
         os.makedirs(folder, exist_ok=True)
         with open(paths[-1], "wb") as file:
             file.write(kinds[number % len(kinds)])
+        # None is so young that it may still be coming in.
+        os.utime(paths[-1], (OLD, OLD))
     os.symlink(paths[0], os.path.join(top, b"link.tif"))
     os.makedirs(os.path.join(top, b"folder.tif"))
     with open(os.path.join(top, b"other.txt"), "wb") as file:

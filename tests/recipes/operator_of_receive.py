@@ -3,6 +3,8 @@ foreign files, kills, and two calls at once; after each call nothing may be lost
 
 from __future__ import annotations
 
+import contextlib
+import fcntl
 import os
 import random
 import signal
@@ -93,6 +95,17 @@ class Operator:
         else:
             self.room.put(place, self.draw.choice(self.contents))
 
+    @contextlib.contextmanager
+    def writing(self, fax: str) -> Iterator[bool]:
+        """At times another program has the fax open to write, or has locked it. Whether one has."""
+        if self.draw.random() < 0.8 or not os.path.isfile(self.room(fax)):
+            yield False
+            return
+        with open(self.room(fax), "r+b" if self.draw.random() < 0.5 else "rb") as file:
+            if file.mode == "rb":
+                fcntl.flock(file, fcntl.LOCK_EX)
+            yield True
+
     def receive(self, fax: str) -> int | None:
         """The status, or nothing where the call was killed."""
         leader = self.room.start("faxpages-receive", fax, "out")
@@ -153,13 +166,16 @@ def operate(room: Room, _: str) -> Iterator[Claim]:
                 operator.meddle()
             fax = operator.a_place()
             before, real = operator.files(), operator.real(fax)
-            status = operator.receive(fax)
+            with operator.writing(fax) as is_written:
+                status = operator.receive(fax)
             checked = operator.report(*before.get(real, ("none", b"")))
             folder = "good" if checked and checked[0] == 0 else "faulty"
             place = operator.real(f"out/{folder}/{os.path.basename(fax)}")
             after = operator.files()
             found = [*lost(before, after, real, status, place)]
             found += sorted_right(operator, before, after, real, status, place)
+            if is_written and (status not in (None, 3) or after.get(real) != before.get(real)):
+                found.append("a fax that another program writes did not stay")
             steps += 1
             if found:
                 yield f"seed {seed}, step {step}, {fax!r}", found, []

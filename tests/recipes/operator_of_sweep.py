@@ -37,6 +37,8 @@ class Operator:
         self.perhaps: set[Key] = set()
         self.unsure = False
         self.foreign: list[str] = []
+        # The fax that another program has open to write.
+        self.writer: int | None = None
         os.makedirs(room("tree"))
         for _ in range(self.draw.randrange(4, 14)):
             self.come()
@@ -78,6 +80,19 @@ class Operator:
             for path in filter(leads_to_itself, self.files()):
                 os.unlink(path)
 
+    def write(self) -> None:
+        """Another program has a fax open to write, or none, until the next sweep has ended."""
+        if self.writer is not None:
+            os.close(self.writer)
+            self.writer = None
+        there = sorted(path for path in self.files() if os.path.isfile(path))
+        if there and not self.perhaps and self.draw.random() < 0.4:
+            self.writer = os.open(self.draw.choice(there), os.O_WRONLY)
+
+    def is_written(self, told: os.stat_result) -> bool:
+        """Whether another program has this fax open to write."""
+        return self.writer is not None and os.path.samestat(told, os.fstat(self.writer))
+
     def files(self) -> list[str]:
         """All that stands in the tree but for folders."""
         return [os.path.join(folder, name) for folder, _, names in os.walk(self.room("tree")) for name in names]
@@ -93,9 +108,16 @@ class Operator:
             if path.lower().endswith((".tif", ".tiff")):
                 told = os.stat(path) if os.path.exists(path) else os.lstat(path)
                 kind = self.kinds[open(path, "rb").read()] if os.path.exists(path) else "not_read"
-                found[told.st_dev, told.st_ino, told.st_ctime_ns, told.st_size] = kind
+                key = told.st_dev, told.st_ino, told.st_ctime_ns, told.st_size
+                # One that was seen is known as it was, whoever writes into it now.
+                found[key] = "coming in" if self.is_written(told) and key not in self.seen else kind
         # A link that leads nowhere is looked at once a minute has passed, too.
         return {key: kind for key, kind in found.items() if kind != "not_read" or key[2] < (time.time() - 60) * 1e9}
+
+
+def looked_at(faxes: dict[Key, str]) -> set[Key]:
+    """The faxes of which something is known after a sweep."""
+    return {key for key, kind in faxes.items() if kind not in ("not_read", "coming in")}
 
 
 def leads_to_itself(path: str) -> bool:
@@ -141,14 +163,14 @@ def compare(operator: Operator, words: list[str], before: dict[str, str | bytes]
         yield f"status {status}: {out}"
     if status == 3 and not operator.foreign:
         # What was new is known, also where nothing is dropped since much is gone.
-        operator.seen |= {key for key, kind in faxes.items() if kind != "not_read"}
+        operator.seen |= looked_at(faxes)
     if status not in (0, 1):
         return
     counts = {kind: list(faxes.values()).count(kind) for kind in ("good", "faulty", "other", "not_read")}
     got = {kind: int(number) for kind, number in figures_of(room).items()}
     if got != counts:
         yield f"figures {got}, wanted {counts}"
-    new = {key for key in faxes if key not in operator.seen}
+    new = {key for key, kind in faxes.items() if key not in operator.seen and kind != "coming in"}
     told = re.search(r"^new: (\d+) faxes", out, re.M)
     number = int(told.group(1)) if told else 0
     if not len(new - operator.perhaps) <= number <= len(new):
@@ -156,7 +178,7 @@ def compare(operator: Operator, words: list[str], before: dict[str, str | bytes]
     bad = sum(faxes[key] != "good" for key in new)
     if not operator.unsure and (status == 1) != (bad > 0):
         yield f"status {status} with {bad} bad ones: {out}"
-    operator.seen = {key for key, kind in faxes.items() if kind != "not_read"}
+    operator.seen = looked_at(faxes)
     operator.perhaps, operator.unsure = set(), False
 
 
@@ -205,6 +227,7 @@ def operate(room: Room, _: str) -> Iterator[Claim]:
             for _meddled in range(operator.draw.randrange(3)):
                 operator.meddle()
             foreign(operator)
+            operator.write()
             words = (["--gone"] if operator.draw.random() < 0.3 else []) + ["tree", "state", "figures"]
             before = operator.contents()
             status, out = sweep(operator, words)

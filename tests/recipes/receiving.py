@@ -161,6 +161,7 @@ def received_from_elsewhere(room: Room) -> Iterator[Claim]:
     place = f"{other}/faxpages-test-{os.getpid()}.tif"
     room.others("there.tif")
     shutil.move(room("there.tif"), place)
+    os.utime(place, (time.time() - 120,) * 2)
     try:
         yield "from another file system", room.call("faxpages-receive", place, "faxes"), (0, b"", "")
         moved = (os.path.exists(place), os.path.exists(room(f"faxes/good/{os.path.basename(place)}")))
@@ -174,6 +175,7 @@ def received_into(room: Room, folder: str, what: str) -> Iterator[Claim]:
     """Faxes come into a folder where there are no links, by copies, which is said; nothing is written over there."""
     for name in ("linkless.tif", "report-there.tif"):
         room.others(name)
+        os.utime(room(name), (time.time() - 120,) * 2)
     data, wanted = room.get("linkless.tif"), room.report("linkless.tif")
     said = "".join(f"faxpages-receive: {folder}/good/linkless.tif{end} is a copy: there are no links\n" for end in ("", ".report"))
     yield f"{what}: received", room.call("faxpages-receive", "linkless.tif", folder), (0, b"", said)

@@ -18,6 +18,7 @@ import faxpages
 from . import _files as files
 from .. import _library as _c
 from ._files import Seen, Stood
+from ._incoming import why_incoming
 from ._lacks import PRINTED, lacks
 from ._marks import Owner, Place
 from .._directory import kind_of
@@ -124,7 +125,10 @@ class Job(NamedTuple):
 
     def _done(self, fax: Waiting) -> Done:
         try:
-            data, told = _read(os.path.join(self.tree, fax.path), self.follow)
+            data, told, incoming = _read(os.path.join(self.tree, fax.path), self.follow, self.compare)
+            if incoming is not None:
+                fault, _, why = incoming.partition(": ")
+                return Done(not_read(fax, fault, why))
             same = (told.st_size, told.st_mtime) == (fax.size, fax.mtime)
             # What is known of the copy is of the fax as it was found.
             now = fax._replace(size=told.st_size, mtime=told.st_mtime, proven=fax.proven and same)
@@ -249,8 +253,9 @@ def _stands(place: Place, digest: str, fax: os.stat_result) -> Tuple[Stood, Seen
     return Stood(told.st_size, files.time_of(told.st_mtime_ns), digest, True), files.seen_of(told), data
 
 
-def _read(path: bytes, follow: bool) -> Tuple[bytes, os.stat_result]:
-    """The bytes of a fax, and what the system told of it before they were read."""
+def _read(path: bytes, follow: bool, looks: bool) -> Tuple[bytes, os.stat_result, Optional[str]]:
+    """The bytes of a fax, what the system told of it before they were read, and, where that is to be looked at, why it may
+    still be coming in. One that changes meanwhile is not read."""
     way = os.O_RDONLY | os.O_NONBLOCK | os.O_CLOEXEC | (0 if follow else os.O_NOFOLLOW)
     try:
         file = os.open(path, way)
@@ -263,7 +268,10 @@ def _read(path: bytes, follow: bool) -> Tuple[bytes, os.stat_result]:
                 raise _NotRead("Read", "no regular file")
             if told.st_size > _MOST:
                 raise _NotRead("Read", f"more than {_MOST} bytes")
-            return opened.readall(), told
+            data, now = opened.readall(), os.fstat(file)
+            if (len(data), now.st_size, now.st_mtime_ns) != (told.st_size, told.st_size, told.st_mtime_ns):
+                raise _NotRead("Changed", "it changed while it was read")
+            return data, told, why_incoming(file) if looks else None
         except OSError as error:
             raise _NotRead("Read", error.strerror) from None
 

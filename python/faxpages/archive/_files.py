@@ -16,6 +16,7 @@ import stat
 import time
 from typing import BinaryIO, Callable, Dict, Iterator, NamedTuple, Optional, Tuple
 
+from ._incoming import why_incoming
 from ._marks import Mark, Owner, Place, is_only, mark_of, name_of, only_of, put_mark, put_only, take_only
 
 _FOLDER = os.O_RDONLY | os.O_DIRECTORY | os.O_CLOEXEC
@@ -528,10 +529,13 @@ class Links:
             return False
 
     def unlink(self, place: Place, fax: Seen, copy_is_kept: Callable[[], bool]) -> Optional[str]:
-        """Deletes a name of a fax, or a link to one, if its copy is kept and it is as it was, which are looked at last;
-        why not, if they are not."""
+        """Deletes a name of a fax, or a link to one, if it is not coming in, its copy is kept and it is as it was, which
+        are looked at last; why not, if they are not."""
         file = os.open(place.name, os.O_PATH | os.O_NOFOLLOW | os.O_CLOEXEC, dir_fd=place.folder)
         try:
+            incoming = _incoming(place)
+            if incoming is not None:
+                return incoming
             if not copy_is_kept():
                 return "NoCopy"
             if not self.is_still(place, fax):
@@ -545,6 +549,15 @@ class Links:
             os.close(file)
 
 
+def _incoming(place: Place) -> Optional[str]:
+    """Why a fax may still be coming in; of a link, what it leads to."""
+    file = os.open(place.name, os.O_RDONLY | os.O_NONBLOCK | os.O_CLOEXEC, dir_fd=place.folder)
+    try:
+        return why_incoming(file)
+    finally:
+        os.close(file)
+
+
 def depth_of(path: bytes) -> int:
     """How many links lead from a name to a file, one after another."""
     for depth in range(40):
@@ -556,17 +569,18 @@ def depth_of(path: bytes) -> int:
 
 
 def stays(tree: Root, relative: bytes, fax: Seen, links: Links) -> Optional[str]:
-    """Why a fax is not to be deleted: it stands in a folder that a link leads to, or it is not as it was; else None."""
+    """Why a fax is not to be deleted: it stands in a folder that a link leads to, it is not as it was, or it is coming in;
+    else None."""
     try:
         with tree.place(relative) as place:
-            return None if links.is_still(place, fax) else "Changed"
+            return _incoming(place) if links.is_still(place, fax) else "Changed"
     except OSError as error:
         return "OutsideTree" if error.errno in (errno.ENOTDIR, errno.ELOOP) else "Changed"
 
 
 def delete(tree: Root, relative: bytes, fax: Seen, links: Links, copy_is_kept: Callable[[], bool]) -> Optional[str]:
-    """Deletes a fax that stands in the tree and is as it was, or a link, if its copy is kept; why it is not gone, if it
-    is not."""
+    """Deletes a fax that stands in the tree, is as it was and is not coming in, or a link, if its copy is kept; why it is
+    not gone, if it is not."""
     try:
         with tree.place(relative) as place:
             return links.unlink(place, fax, copy_is_kept)

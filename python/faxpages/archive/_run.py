@@ -320,24 +320,35 @@ class Run:
         return FAULTY if self._counts[FAULTY] + self._counts[OTHER] else GOOD
 
     def _delete(self, status: int) -> int:
-        """Deletes the faxes of the table, if all are copied and each is compared with its copy once more. What a copy
-        lacks keeps its fax, unless the words give it up. The status."""
-        if status != GOOD:
-            say("not all is copied; nothing is deleted")
+        """Deletes the good faxes of the table, once each is compared with its copy once more; or none, if the words ask
+        for all or nothing and one is not good and copied. What a copy lacks keeps its fax, unless the words give it up.
+        The status."""
+        whole = self._words.all_or_nothing
+        if self._failed or whole and status != GOOD:
+            say(f"not all is {'read' if self._failed else 'copied'}; nothing is deleted")
             return status
-        self._table.wait_for_all()
+        self._table.wait_for_good()
+        if self._job.follow:
+            for path in self._table.not_good():
+                self._note_link(path)
         lacking, kept = self._compare()
-        if lacking:
+        if lacking and whole:
             say("not all copies are right; nothing is deleted")
             return NOT_READ
         count = changed = outside = 0
         for batch in self._table.all_compared():
             gone, others, away = self._delete_some(batch)
             count, changed, outside = count + gone, changed + others, outside + away
-        told_kept = f"; {outside} kept, since they stand outside TREE" if outside else ""
-        told_kept += f"; {kept} kept, since their copies lack something" if kept else ""
-        print(f"deleted {count} faxes{told_kept}")
-        return GOOD if not changed and not kept else NOT_READ
+        self._note_whys()
+        print(f"deleted {count} faxes{self._told_kept(lacking + changed, outside, kept)}")
+        return NOT_READ if lacking or changed or kept else status
+
+    def _told_kept(self, others: int, outside: int, lacking: int) -> str:
+        """How many faxes are kept, and why."""
+        bad = sum(self._counts.values()) - self._counts[GOOD]
+        reasons = ((bad, "since they are not good and copied"), (outside, "since they stand outside TREE"),
+                   (lacking, "since their copies lack something"), (others, "as said above"))
+        return "".join(f"; {count} kept, {why}" for count, why in reasons if count)
 
     def _compare(self) -> Tuple[int, int]:
         """How many faxes have not the rows of their copy, or are not as they were; and how many are kept, since their
@@ -350,7 +361,8 @@ class Run:
             for row, copy, _, seen, copy_seen, fields_seen in done:
                 if row.status != GOOD or copy is None or seen is None or copy_seen is None:
                     lacking += 1
-                    say(f"{row.fault}: {shown(row.path)}" + (f": {row.why}" if row.why else ""))
+                    self._stays(row.path, f"{row.fault}: {row.why}" if row.why else str(row.fault))
+                    self._note_link(row.path)
                     continue
                 missed = set((row.lacks or "").split()) - given_up
                 copied = self._table.copied(row.path)
@@ -359,11 +371,17 @@ class Run:
                 if missed and files.stays(tree, row.path, seen, self._links) != "OutsideTree":
                     kept += 1
                     say(f"kept: {shown(row.path)}: {' '.join(sorted(missed))}")
-                    if self._depth(row.path):
-                        self._linked.add((seen.device, seen.inode))
+                    self._note_link(row.path)
                 else:
                     self._table.compared(Compared(row.path, seen, copy_seen, fields_seen, self._depth(row.path)))
         return lacking, kept
+
+    def _note_link(self, path: bytes) -> None:
+        """Notes what the name of a fax that stays leads to, if it is a link."""
+        if self._depth(path):
+            with contextlib.suppress(OSError):
+                seen = files.seen_of(os.stat(os.path.join(self._job.tree, path)))
+                self._linked.add((seen.device, seen.inode))
 
     def _depth(self, path: bytes) -> int:
         """How many links lead from the name of a fax to a file."""
@@ -406,17 +424,27 @@ class Run:
         away = set(gone)
         left = [row for row in rows if row[0].path not in away
                 and os.path.lexists(os.path.join(self._job.tree, row[0].path))]
-        if left or self._whys:
-            self._table.stay(left, self._whys)
+        if left:
+            self._table.put_back(left)
+        self._note_whys()
+
+    def _note_whys(self) -> None:
+        """Notes in the table why faxes are not deleted."""
+        if self._whys:
+            self._table.stay(self._whys)
             self._whys.clear()
 
     def _keep(self, it: Compared, why: str) -> None:
-        """Says why a fax is not deleted, for the table too, and notes what a link leads to that stays."""
-        self._whys[it.path] = why
-        name, _, more = why.partition(": ")
-        say(f"{name}: {shown(it.path)}" + (f": {more}" if more else ""))
+        """Says why a fax is not deleted, and notes what a link leads to that stays."""
+        self._stays(it.path, why)
         if it.depth:
             self._linked.add((it.fax.device, it.fax.inode))
+
+    def _stays(self, path: bytes, why: str) -> None:
+        """Says why a fax is not deleted, for the table too."""
+        self._whys[path] = why
+        name, _, more = why.partition(": ")
+        say(f"{name}: {shown(path)}" + (f": {more}" if more else ""))
 
     def _lost(self, it: Compared) -> Optional[str]:
         """Whether a copy has gone, or changed, since it was compared; or a link leads to the fax, and stays."""

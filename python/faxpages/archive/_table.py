@@ -477,10 +477,15 @@ class Table:
         for row in self._base.execute(query, (kept_path(path),)):
             yield Found(path, *row[4:]), Look(*row[:4])
 
-    def stay(self, rows: List[Tuple[Found, Look]], whys: Dict[bytes, str]) -> None:
-        """Puts back the rows of faxes that were about to be deleted and stay, and notes why faxes stay. What was
-        known of the copies is not put back: they may be marked as the only ones, and are looked at anew. Committed."""
+    def put_back(self, rows: List[Tuple[Found, Look]]) -> None:
+        """Puts back the rows of faxes that were about to be deleted and stay. What was known of the copies is not put
+        back: they may be marked as the only ones, and are looked at anew. Committed."""
         self._put(rows)
+        self.commit_all()
+
+    def stay(self, whys: Dict[bytes, str]) -> None:
+        """Notes why faxes stay that were to be deleted. Committed."""
+        self.begin()
         self._base.executemany("UPDATE faxes SET why = ? WHERE path = ?",
                                ((why, kept_path(path)) for path, why in whys.items()))
         self.commit_all()
@@ -536,13 +541,21 @@ class Table:
         """Notes that a fax is due. It is kept outside the table, and goes with this process."""
         self._base.execute("INSERT INTO waiting VALUES (?, ?, ?, ?, ?, ?)", fax)
 
-    def wait_for_all(self) -> None:
-        """Notes that all faxes of the table are due, with what is known of their copies."""
+    def wait_for_good(self) -> None:
+        """Notes that all good faxes of the table are due, with what is known of their copies, and that none is known to
+        stay."""
+        self.begin()
+        self._base.execute("UPDATE faxes SET why = NULL WHERE status = ? AND why IS NOT NULL", (GOOD,))
         self._base.execute("DELETE FROM waiting")
         self._base.execute(
             "INSERT INTO waiting SELECT CAST(path AS BLOB), faxes.size, faxes.mtime, ifnull(digest, ''), "
             "ifnull(fields_digest, ''), ifnull(ours, 0) AND ifnull(fields_ours, 1) FROM faxes LEFT JOIN copies "
-            "USING (path)")
+            "USING (path) WHERE status = ?", (GOOD,))
+
+    def not_good(self) -> Iterator[bytes]:
+        """The faxes that are not good."""
+        for (path,) in self._base.execute("SELECT path FROM faxes WHERE status != ?", (GOOD,)):
+            yield bytes_of(path)
 
     def taker(self) -> Callable[[int], List[Waiting]]:
         """What hands out the faxes that are due, in order, so many at a time."""

@@ -57,7 +57,9 @@ def _convert_words(convert: argparse.ArgumentParser) -> None:
     convert.add_argument("--align", action="store_true")
     convert.add_argument("--fields", action="store_true", help="write NAME.fields beside each copy, by tiffdump")
     convert.add_argument("--adopt", action="store_true", help="take over files that have the bytes of a copy")
-    convert.add_argument("--delete", action="store_true", help="delete the faxes once all are copied and compared")
+    convert.add_argument("--delete", action="store_true", help="delete the faxes that are copied and compared")
+    convert.add_argument("--all-or-nothing", action="store_true",
+                         help="delete nothing where one is not good, copied and compared")
     convert.add_argument("--give-up", type=_given_up, default=[], metavar="WHAT",
                          help=f"delete also faxes whose copies lack this, of {','.join(NAMES)}")
 
@@ -118,5 +120,7 @@ def _look_at_tree_words(parser: argparse.ArgumentParser, words: argparse.Namespa
         parser.error("--align is for mh and mr")
     if words.give_up and not words.delete:
         parser.error("--give-up is for --delete")
+    if words.all_or_nothing and not words.delete:
+        parser.error("--all-or-nothing is for --delete")
     if words.faults_ok and words.delete:
-        parser.error("--faults-ok is not for --delete, which waits until no fax has a fault")
+        parser.error("--faults-ok is not for --delete, whose status 0 says that all faxes are deleted")

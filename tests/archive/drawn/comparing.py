@@ -164,6 +164,7 @@ class Comparison:
         fax = self.before.seen.faxes.get(name)
         self.claim(self.words.delete and fax is not None and fax.inside, f"deleted: {name!r}")
         assert fax is not None
+        self.claim(not fax.written, f"deleted, and another program writes it: {name!r}")
         self.claim(
             fax.data is not None and not self.model.teller.verdict(
                 fax.data).status,
@@ -450,10 +451,8 @@ class Comparison:
         kept = set(self.before.rows) - set(faxes) if seen.failed else set()
         self.claim(set(self.after.rows) - set(faxes) == kept, "rows of faxes that are gone")
         worst = status_of([row.verdict.status for row in self.after.rows.values()] + [3 if seen.failed else 0])
-        if self.words.delete and worst == 0:
-            left = [path for path, fax in faxes.items() if fax.inside and path in self.after.tree]
-            self.claim(self.ran.status in (0, 3), f"status {self.ran.status}")
-            self.claim(self.ran.status == 3 or not left, f"not deleted, status 0: {left}")
+        if self.words.delete:
+            self._deleted(worst)
         else:
             wanted = 0 if self.words.faults_ok and worst == 1 else worst
             self.claim(self.ran.status == wanted, f"status {self.ran.status}, wanted {wanted}")
@@ -465,6 +464,27 @@ class Comparison:
         unsure = self._perhaps_due()
         least, most = len(set(self.due) - unsure), len(set(self.due) | unsure)
         self.claim(more or least <= int(done.group(1)) <= most, f"done {done}, wanted {self.due}, perhaps {unsure}")
+
+    def _deleted(self, worst: int) -> None:
+        """All that may be deleted is, or nothing, where the words ask for that; the status is 3 where a good fax stays."""
+        good = [path for path, row in self.after.rows.items() if row.verdict.status == GOOD]
+        left = [path for path in good if path in self.after.tree and self._share()[path].inside]
+        self.claim(self.ran.status in (worst, NOT_READ), f"status {self.ran.status}, wanted {worst} or 3")
+        self.claim(self.ran.status == NOT_READ or bool(self.words.whole and worst) or not left, f"not deleted: {left}")
+        gone = set(self.before.tree) - set(self.after.tree)
+        self.claim(not (self.words.whole and worst and gone), f"all or nothing: deleted {gone}")
+        if not self.words.whole and not self.job.follow and self.beside is None and not self.trouble.at:
+            stay = [path for path in left if self._may_go(path)]
+            self.claim(not stay or self.before.seen.failed > 0, f"not deleted, and may be: {stay}")
+
+    def _may_go(self, path: bytes) -> bool:
+        """Whether it is sure that nothing keeps a good fax."""
+        fax = self._share()[path]
+        assert fax.data is not None
+        lacks = set(self.episode.lacks[fax.data]) - set(self.words.give_up)
+        wanted = self.model.wanted(self.world, self.job, path, fax)
+        ours = all(self.model.owned(self.job, name) == data for name, data in wanted.items())
+        return self._is_sure(path) and not lacks and not fax.written and ours and self.job.to[0] != "pbm"
 
     def _folded(self) -> None:
         """Of faxes whose copies have one name in a folder that folds case those are good whose copy stands there; and

@@ -43,11 +43,12 @@ class Words(NamedTuple):
     give_up: Tuple[str, ...] = ()
     adopt: bool = False
     faults_ok: bool = False
+    whole: bool = False
 
 
 class Fax(NamedTuple):
-    """A fax as a run sees it: its bytes, or None where it cannot be opened; its size and times, its mode and owner, and
-    whether it stands in the tree itself."""
+    """A fax as a run sees it: its bytes, or None where it cannot be opened; its size and times, its mode and owner,
+    whether it stands in the tree itself, and whether another program writes it."""
 
     data: Optional[bytes]
     size: int
@@ -56,6 +57,7 @@ class Fax(NamedTuple):
     mode: int
     owner: Tuple[int, int]
     inside: bool
+    written: bool = False
 
 
 class Row(NamedTuple):
@@ -113,7 +115,7 @@ def see(world: World, job: Job, other_user: bool) -> Seen:
             elif kind == "lost" and not name.lower().endswith(ENDINGS):
                 failed += 1
             elif kind in ("file", "lost") and name.lower().endswith(ENDINGS):
-                faxes[path] = _fax(os.path.join(world.tree, path), kind, other_user, inside)
+                faxes[path] = _fax(world, os.path.join(world.tree, path), kind, other_user, inside)
     return Seen(faxes, failed, into)
 
 
@@ -129,14 +131,14 @@ def _kind(path: bytes, follow: bool) -> str:
     return "folder" if stat.S_ISDIR(told.st_mode) else "file" if stat.S_ISREG(told.st_mode) else "pipe"
 
 
-def _fax(path: bytes, kind: str, other_user: bool, inside: bool) -> Fax:
+def _fax(world: World, path: bytes, kind: str, other_user: bool, inside: bool) -> Fax:
     told = os.lstat(path) if kind == "lost" else os.stat(path)
     data = None
     if kind == "file" and not (other_user and not told.st_mode & 0o400):
         with open(path, "rb") as file:
             data = file.read()
     return Fax(data, told.st_size, told.st_mtime, told.st_mtime_ns,
-               stat.S_IMODE(told.st_mode), (told.st_uid, told.st_gid), inside)
+               stat.S_IMODE(told.st_mode), (told.st_uid, told.st_gid), inside, world.is_written(told))
 
 
 # The rows of a table by their paths, and its last run: its number, its words, whether all was read by then, and whether it

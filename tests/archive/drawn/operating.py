@@ -56,6 +56,7 @@ class Episode:
 
     def end(self) -> None:
         """Ends what was started for the episode."""
+        self.world.close_writers()
         if self.cluster is not None:
             self.cluster.end()
         if self.world.folds:
@@ -90,7 +91,7 @@ class Episode:
     def _events(self) -> List[Callable[[], None]]:
         world = self.world
         common = [world.change, world.touch, world.more, world.more, world.vanish, world.move, world.hurt_copy,
-                  world.hard_link]
+                  world.hard_link, world.write]
         rare = [world.foreign, world.new_link, world.link_in_target, world.away, world.move_tree,
                 self._back_up, self._restore, self._restore]
         if self.other_user:
@@ -140,7 +141,8 @@ class Episode:
             return Words(again, gone, faults_ok=rng.random() < 0.1)
         delete = rng.random() < (0.3 if self.kind != GOING else 0.9)
         give_up = tuple(it for it in LACKING if delete and (self.kind == GOING or rng.random() < 0.3))
-        return Words(again, gone, delete, give_up, rng.random() < 0.1, not delete and rng.random() < 0.1)
+        return Words(again, gone, delete, give_up, rng.random() < 0.1, not delete and rng.random() < 0.1,
+                     delete and rng.random() < 0.3)
 
     def _given(self, job: Job, words: Words) -> List[str]:
         """The words of the command line."""
@@ -149,7 +151,7 @@ class Episode:
                  "--table", f"{os.fsdecode(self.world.tables)}/{job.table}"]
         given += ["--to", *job.to] if job.to else []
         flags = {"--follow": job.follow, "--fields": job.fields, "--gone": words.gone, "--delete": words.delete,
-                 "--adopt": words.adopt, "--faults-ok": words.faults_ok}
+                 "--adopt": words.adopt, "--faults-ok": words.faults_ok, "--all-or-nothing": words.whole}
         given += [flag for flag, said in flags.items() if said]
         given += ["--again", words.again] if words.again else []
         given += ["--give-up", ",".join(words.give_up)] if words.give_up else []
@@ -211,7 +213,7 @@ class Episode:
             words[1] = words[0]
         else:
             # What one run deletes the other may have seen, or not.
-            words = [it._replace(delete=False, give_up=()) for it in words]
+            words = [it._replace(delete=False, give_up=(), whole=False) for it in words]
         befores = [Before(self.world, it, False) for it in (job, other)]
         trouble = Trouble(clock=self.rng.choice([0.0, 0.0, 4e8, -4e8]))
         engine = self.rng.choice([INLINE, self._workers()])

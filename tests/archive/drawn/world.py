@@ -1,5 +1,6 @@
 """A drawn tree with all that stands around it, and what happens to it between and amid commands."""
 
+import fcntl
 import os
 import random
 import shutil
@@ -71,6 +72,8 @@ class World:
         for name in (self.tree, self.target, self.outside, self.tables):
             os.makedirs(name, exist_ok=True)
         self.clock = 1_500_000_000_000_000_000
+        # The faxes that other programs have open to write, or have locked.
+        self.writers: List[int] = []
         for _ in range(rng.randint(4, 14)):
             self.new_fax(self.tree)
         for _ in range(rng.randint(0, 3)):
@@ -170,6 +173,26 @@ class World:
         if fax is not None and not os.path.lexists(to) and os.path.isdir(os.path.dirname(to)) and (
                 not self.blocked(os.path.dirname(to))):
             os.link(os.path.join(self.tree, fax), to)
+
+    def write(self) -> None:
+        """Another program opens a fax to write, or locks it; or all that have one close it."""
+        fax = self.any_fax()
+        if self.writers or fax is None:
+            self.close_writers()
+            return
+        way = self.rng.choice([os.O_WRONLY, os.O_RDWR, os.O_RDONLY])
+        self.writers.append(os.open(os.path.join(self.tree, fax), way))
+        if way == os.O_RDONLY:
+            fcntl.flock(self.writers[-1], fcntl.LOCK_EX)
+
+    def close_writers(self) -> None:
+        """The programs that have faxes open close them."""
+        while self.writers:
+            os.close(self.writers.pop())
+
+    def is_written(self, told: os.stat_result) -> bool:
+        """Whether another program has a file open to write, or has locked it."""
+        return any(os.path.samestat(told, os.fstat(it)) for it in self.writers)
 
     def more(self) -> None:
         self.new_fax(self.tree)
