@@ -77,10 +77,11 @@ def told(room: Room, said: dict[str, str]) -> None:
 
 
 def kept(room: Room, said: dict[str, str]) -> None:
-    """They are not copied, and nothing is deleted beside them."""
+    """They are not copied, and by --all-or-nothing nothing is deleted beside them."""
     before = sorted(os.listdir(room("kinds/tree")))
     os.rename(room("kinds/tree/faulty.tif"), room("kinds/faulty.tif"))
-    words = ["convert", "kinds/tree", "kinds/copies", "--to", "mmr", "--table", "kinds/c.sqlite", "--delete"]
+    words = ["convert", "kinds/tree", "kinds/copies", "--to", "mmr", "--table", "kinds/c.sqlite", "--delete",
+             "--all-or-nothing"]
     status, _, error = room.run(*words)
     os.rename(room("kinds/faulty.tif"), room("kinds/tree/faulty.tif"))
     room.claim("other kinds: nothing is deleted", (status, "not all is copied; nothing is deleted" in error), (1, True))

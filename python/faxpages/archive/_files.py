@@ -441,17 +441,25 @@ def _remove(part: Place) -> None:
         os.unlink(part.name, dir_fd=part.folder)
 
 
-def disown(target: Root, relative: bytes, owner: Owner, stood: Optional[Stood]) -> None:
-    """Marks a copy whose fax is gone as the only one, so that no other fax of this name replaces it."""
+def disown(target: Root, relative: bytes, owner: Owner, stood: Optional[Stood]) -> Optional[str]:
+    """Marks a copy whose fax is gone as the only one, so that no other fax of this name replaces it, unless it is marked
+    so. Why it cannot be marked, or read, if so."""
     try:
         with target.place(relative) as place, opened(place) as file:
-            if file is not None and _is_known(file, relative, owner, stood):
+            if file is not None and not is_only(place, file) and _is_known(file, relative, owner, stood):
                 put_only(place, file, owner)
-    except NotOurs:
-        pass
-    except OSError as error:
-        if error.errno not in (errno.ENOENT, errno.ENOTDIR, errno.ELOOP):
-            raise
+            return None
+    except (NotOurs, OSError) as error:
+        return _not_marked(target, relative, error)
+
+
+def _not_marked(target: Root, relative: bytes, error: Exception) -> Optional[str]:
+    """Why a copy cannot be marked, by what came of it; None where no file is there that may be a copy."""
+    if isinstance(error, NotOurs):
+        there = target.look(relative)
+        return str(error) if there is not None and stat.S_ISREG(there.st_mode) else None
+    assert isinstance(error, OSError)
+    return None if error.errno in (errno.ENOENT, errno.ENOTDIR, errno.ELOOP) else error.strerror
 
 
 def mark_left(target: Root, relative: bytes, owner: Owner, mtime: Optional[float],
@@ -467,11 +475,8 @@ def mark_left(target: Root, relative: bytes, owner: Owner, mtime: Optional[float
             if ours or os.fstat(file).st_mtime == mtime or (digest is not None and digest_of(file) == digest):
                 put_only(place, file, owner)
             return None
-    except NotOurs as error:
-        there = target.look(relative)
-        return str(error) if there is not None and stat.S_ISREG(there.st_mode) else None
-    except OSError as error:
-        return None if error.errno in (errno.ENOENT, errno.ENOTDIR, errno.ELOOP) else error.strerror
+    except (NotOurs, OSError) as error:
+        return _not_marked(target, relative, error)
 
 
 def _is_known(file: int, relative: bytes, owner: Owner, stood: Optional[Stood]) -> bool:

@@ -95,7 +95,7 @@ class Run:
     def __init__(self, words: argparse.Namespace, job: Job, table: Table) -> None:
         self._words, self._job, self._table = words, job, table
         self._counts = {GOOD: 0, FAULTY: 0, OTHER: 0, NOT_READ: 0}
-        self._kept = self._due = self._gone = self._failed = self._changed = self._unmarked = 0
+        self._kept = self._due = self._gone = self._left = self._failed = self._changed = self._unmarked = 0
         self._began = time.monotonic()
         self._target = job.target_root() if job.target is not None else None
         # When hard links of a fax that is deleted changed, and to which faxes a link leads that stays.
@@ -112,14 +112,15 @@ class Run:
         rows_seen, empty = self._note()
         unseen = [] if self._failed else list(self._table.unseen(rows_seen))
         # A fax that stayed though it was to be deleted may go later.
-        gone = set(unseen).difference(self._table.about_to_be_deleted())
+        unmarked = [path for path in self._table.not_marked() if not self._is_back(path)]
+        gone = set(unseen).difference(self._table.about_to_be_deleted(), unmarked)
         refused = self._refused(before, len(gone), empty)
         if refused:
             say(f"{refused}; nothing is changed (--gone allows it)")
             return NOT_READ
         self._settle()
         self._mark_left()
-        self._forget(unseen)
+        self._forget(dict.fromkeys(unseen), dict.fromkeys(unmarked))
         self._begin()
         self._do_all()
         self._table.end_run(self._number, self._failed)
@@ -257,20 +258,43 @@ class Run:
         self._failed += 1
         say(f"not read: {shown(error.filename)}: {error.strerror}")
 
-    def _forget(self, paths: List[bytes]) -> None:
-        """Takes the rows of faxes that are gone out of the table. Their copies stay, and are replaced by no other."""
-        if self._target is not None:
-            for path in paths:
-                self._disown(path)
-        self._table.forget(paths)
-        self._table.commit_all()
-        self._gone = len(paths)
+    def _is_back(self, path: bytes) -> bool:
+        """Whether a fax that had gone is there again, as it was."""
+        known = self._table.known(path)
+        try:
+            told = os.stat(os.path.join(self._job.tree, path), follow_symlinks=self._job.follow)
+        except OSError:
+            return False
+        return known is not None and (known.size, known.mtime) == (told.st_size, told.st_mtime)
 
-    def _disown(self, path: bytes) -> None:
+    def _forget(self, gone: Dict[bytes, None], unmarked: Dict[bytes, None]) -> None:
+        """Takes the rows of faxes that are gone out of the table. Their copies stay, and are replaced by no other: they
+        are marked as the only ones. Where one cannot be marked the row stays and says why, no fax of that name is done,
+        and the next run tries it again, as this one those that were left so."""
+        whys: Dict[bytes, str] = {}
+        if self._target is not None:
+            for path in {**gone, **unmarked}:
+                why = self._disown(path)
+                if why is not None:
+                    whys[path] = why
+        self._table.forget([path for path in gone if path not in whys])
+        self._table.forget_copies([path for path in unmarked if path not in whys])
+        self._due -= self._table.are_not_marked(whys, self._number, self._job.owner.number)
+        self._table.commit_all()
+        self._left = len(gone.keys() & whys.keys())
+        self._gone = len(gone) - self._left
+        self._counts[NOT_READ] += len(whys)
+
+    def _disown(self, path: bytes) -> Optional[str]:
+        """Marks the copy of a fax that is gone, and its fields; why they cannot be marked, which is said."""
         assert self._target is not None
         name, copied = self._job.copy_of(path), self._table.copied(path)
-        files.disown(self._target, name, self._job.owner, copied.copy if copied else None)
-        files.disown(self._target, name + FIELDS, self._job.owner, copied.fields if copied else None)
+        for each, stood in ((name, copied.copy if copied else None), (name + FIELDS, copied.fields if copied else None)):
+            why = files.disown(self._target, each, self._job.owner, stood)
+            if why is not None:
+                say(f"NoMark: {shown(each)}: {why}")
+                return why
+        return None
 
     def _do_all(self) -> None:
         """Does what is due."""
@@ -345,7 +369,7 @@ class Run:
 
     def _told_kept(self, others: int, outside: int, lacking: int) -> str:
         """How many faxes are kept, and why."""
-        bad = sum(self._counts.values()) - self._counts[GOOD]
+        bad = sum(self._counts.values()) - self._counts[GOOD] - self._left
         reasons = ((bad, "since they are not good and copied"), (outside, "since they stand outside TREE"),
                    (lacking, "since their copies lack something"), (others, "as said above"))
         return "".join(f"; {count} kept, {why}" for count, why in reasons if count)

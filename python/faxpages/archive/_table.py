@@ -455,6 +455,26 @@ class Table:
         for name in ("faxes", "times", "copies"):
             self._base.executemany(f"DELETE FROM {name} WHERE path = ?", kept)
 
+    def forget_copies(self, paths: List[bytes]) -> None:
+        """Takes out what is known of the copies of these faxes."""
+        self.begin()
+        self._base.executemany("DELETE FROM copies WHERE path = ?", ((kept_path(path),) for path in paths))
+
+    def not_marked(self) -> List[bytes]:
+        """The faxes that have gone, and whose copies could not be marked as the only ones."""
+        found = self._base.execute("SELECT path FROM faxes WHERE status = ? AND fault = 'NoMark'", (NOT_READ,))
+        return [bytes_of(path) for (path,) in found]
+
+    def are_not_marked(self, whys: Dict[bytes, str], run: int, origin: str) -> int:
+        """Notes of these faxes that they have gone, and why their copies cannot be marked. How many of them were due, since
+        others have their names, and are so no more."""
+        now = time.time()
+        rows = [(row._replace(status=NOT_READ, fault="NoMark", fault_page=None, fault_row=None, fault_tag=None,
+                              why=whys[path]), Look(now, now, run, origin))
+                for path in whys for row, _ in self._row(path)]
+        self._put(rows)
+        return sum(self._base.execute("DELETE FROM waiting WHERE path = ?", (path,)).rowcount for path in whys)
+
     def forget_deleted(self, paths: List[bytes]) -> List[Tuple[Found, Look]]:
         """Takes out the rows of faxes that are about to be deleted, and keeps their sizes and times. Committed. The time
         of their deletion is 0 until it is known that they are gone. The rows, to be put back where a fax stays."""

@@ -19,6 +19,10 @@ if TYPE_CHECKING:
     from tests.archive.drawn.operating import Episode
 
 
+# The row of a fax that has gone, and whose copy is not marked as the only one.
+NOT_MARKED = Verdict(NOT_READ, "NoMark")
+
+
 class Difference(Exception):
     """What was done is not what the model says."""
 
@@ -134,7 +138,8 @@ class Comparison:
         if self.words.gone:
             return None
         faxes = self._share()
-        gone = 0 if seen.failed else len(set(before.rows) - set(faxes) - before.about_to_go)
+        gone = 0 if seen.failed else len(set(before.rows) - set(faxes) - before.about_to_go - {
+            path for path, row in before.rows.items() if row.verdict == NOT_MARKED})
         if not seen.faxes and not before.rows and not seen.failed and not before.deleted:
             return 3
         if gone * 10 > len(before.rows):
@@ -356,6 +361,8 @@ class Comparison:
             if self._is_amid(path):
                 self._forget_amid(path)
                 continue
+            if self._is_not_marked(path):
+                continue
             self.claim(path in faxes, f"a row of no fax: {path!r}")
             if self._leads_nowhere_now(path):
                 self.claim(row.verdict == Verdict(NOT_READ, "Open"), f"a link that leads nowhere: {path!r}: {row}")
@@ -369,6 +376,16 @@ class Comparison:
                 self._note_good(path, fax)
         for path in set(self.before.rows) - set(self.after.rows):
             self.claim(path not in faxes or self.words.delete, f"a row is lost: {path!r}")
+
+    def _is_not_marked(self, path: bytes) -> bool:
+        """Whether the copy of a fax that had gone was not marked, since a call was refused, now or in a run before. Then it
+        is not known whose it is."""
+        if self.after.rows[path].verdict != NOT_MARKED:
+            return False
+        before = self.before.rows.get(path)
+        self.claim(self.trouble.error is not None or before is not None and before.verdict == NOT_MARKED, f"not marked: {path!r}")
+        self.model.maybe.setdefault(self.job.table, set()).update(self._copies(path))
+        return True
 
     def _is_done_alike(self, path: bytes) -> bool:
         """Whether a fax was done though its row is as it was, since a run that goes on has the number that it had. Where
@@ -449,6 +466,7 @@ class Comparison:
         if not self.words.delete:
             self.claim(not deleted, f"no row of {deleted}")
         kept = set(self.before.rows) - set(faxes) if seen.failed else set()
+        kept |= {path for path, row in self.after.rows.items() if row.verdict == NOT_MARKED} - set(faxes)
         self.claim(set(self.after.rows) - set(faxes) == kept, "rows of faxes that are gone")
         worst = status_of([row.verdict.status for row in self.after.rows.values()] + [3 if seen.failed else 0])
         if self.words.delete:
