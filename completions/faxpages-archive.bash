@@ -6,6 +6,7 @@ _faxpages_command_options() {
     faxpages-archive-check) echo --table --dask --scheduler --processes --timeout --again --share --follow --gone --names --faults-ok --lost ;;
     faxpages-archive-convert) echo --to --order --k --strip --align --fields --adopt --delete --all-or-nothing --give-up --table --dask --scheduler --processes --timeout --again --share --follow --gone --names --faults-ok ;;
     faxpages-archive-table) echo --csv --json --summary --prometheus --faulty ;;
+    faxpages-archive-verify) echo --table --dask --scheduler --processes --timeout --gone --names ;;
     faxpages-compare) echo --replace ;;
     faxpages-from-pdf) echo --standard --as-is --coding --width --replace ;;
     faxpages-hylafax) echo --remove ;;
@@ -29,7 +30,7 @@ _faxpages_command() {
     local word=${COMP_WORDS[COMP_CWORD]} name=${COMP_WORDS[0]##*/} words=
     COMPREPLY=()
     if [ "$name" = faxpages-archive ] && [ "$COMP_CWORD" = 1 ]; then
-        words='check convert table merge'
+        words='check convert table verify merge'
     else
         [ "$name" != faxpages-archive ] || name=$name-${COMP_WORDS[1]}
         words=$(_faxpages_command_values "${COMP_WORDS[COMP_CWORD - 1]}")

@@ -1,12 +1,16 @@
 # Completes the words of faxpages-archive(1) and of the scripts of faxpages-recipes(1) in fish.
 
-set -l commands check convert table merge
+set -l commands check convert table verify merge
 
 complete -c faxpages-archive -n "not __fish_seen_subcommand_from $commands" -f -a "$commands"
-for option in table scheduler processes timeout share
-    complete -c faxpages-archive -n '__fish_seen_subcommand_from check convert' -l $option -r
+for option in table scheduler processes timeout
+    complete -c faxpages-archive -n '__fish_seen_subcommand_from check convert verify' -l $option -r
 end
-for option in dask follow gone names faults-ok
+complete -c faxpages-archive -n '__fish_seen_subcommand_from check convert' -l share -r
+for option in dask gone names
+    complete -c faxpages-archive -n '__fish_seen_subcommand_from check convert verify' -l $option
+end
+for option in follow faults-ok
     complete -c faxpages-archive -n '__fish_seen_subcommand_from check convert' -l $option
 end
 complete -c faxpages-archive -n '__fish_seen_subcommand_from check convert' -l again -x -a 'unread faulty copies all'

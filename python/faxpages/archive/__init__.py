@@ -4,8 +4,9 @@
         [--timeout SECONDS] [--again unread | faulty | all] [--share I/N] [--follow] [--gone] [--names] [--faults-ok]
         [--lost]
     faxpages-archive convert TREE TARGET --to pbm | mh | mr | mmr --table TABLE.sqlite [..] [--again copies]
-        [--order 1 | 2] [--k K] [--strip ROWS] [--align] [--fields] [--adopt] [--delete [--give-up WHAT]]
+        [--order 1 | 2] [--k K] [--strip ROWS] [--align] [--fields] [--adopt] [--delete [--all-or-nothing] [--give-up WHAT]]
     faxpages-archive table TABLE.sqlite --csv | --json | --summary | --prometheus | --faulty
+    faxpages-archive verify TARGET --table TABLE.sqlite [--processes N | ..] [--timeout SECONDS] [--gone] [--names]
     faxpages-archive merge TABLE.sqlite PART.sqlite..
 
 Also as python3 -I -m faxpages.archive. Status: 0 all faxes are good; 1 one has a fault; 2 the words are not understood;

@@ -27,6 +27,7 @@ from .._directory import kind_of
 _MOST = 268435456
 # What comes of a fax: it is good, it has a fault, it is no fax that is read here, or it cannot be read or written.
 GOOD, FAULTY, OTHER, NOT_READ = 0, 1, 2, 3
+_TURNED = "it has other bytes than before, and the same size and time of change"
 # What the name of a copy's fields ends with.
 FIELDS = b".fields"
 
@@ -41,8 +42,9 @@ class NoWorker(Exception):
 
 class Waiting(NamedTuple):
     """A fax that is due: its path below the tree, its size and mtime when it was found, the digests that the table
-    knows of its copy and of the copy's fields, and whether the copy is of this fax as it is, so that a copy which has
-    that digest need not be made again."""
+    knows of its copy and of the copy's fields, whether the copy is of this fax as it is, so that a copy which has
+    that digest need not be made again, and the digest of its own bytes as they were read before, with that size and
+    mtime."""
 
     path: bytes
     size: int
@@ -50,6 +52,7 @@ class Waiting(NamedTuple):
     copy: str = ""
     fields: str = ""
     proven: bool = False
+    digest: bytes = b""
 
 
 class Found(NamedTuple):
@@ -78,8 +81,8 @@ class Found(NamedTuple):
 
 
 class Done(NamedTuple):
-    """What came of a fax: its row; its copy and the copy's fields, if they stand; and, of a fax that was compared with
-    its copy, what it is known by, and what these are."""
+    """What came of a fax: its row; its copy and the copy's fields, if they stand; of a fax that was compared with its
+    copy, what it is known by, and what these are; and the digest of its bytes, if they are what is to be found again."""
 
     found: Found
     copy: Optional[Stood] = None
@@ -87,11 +90,12 @@ class Done(NamedTuple):
     seen: Optional[Seen] = None
     copy_seen: Optional[Seen] = None
     fields_seen: Optional[Seen] = None
+    digest: Optional[bytes] = None
 
 
 class Job(NamedTuple):
     """What is done with each fax below a tree: a check; or, where a target is named, a conversion; or a comparison
-    with the copy that is there. owner is whose copies are ours; adopt takes over copies that have the right bytes; lost
+    with the copy that is there; or only a look at its copy, where it was deleted. owner is whose copies are ours; adopt takes over copies that have the right bytes; lost
     counts the rows of faulty faxes."""
 
     tree: bytes
@@ -107,6 +111,7 @@ class Job(NamedTuple):
     owner: Owner = Owner("")
     adopt: bool = False
     lost: bool = False
+    verify: bool = False
 
     def copy_of(self, path: bytes) -> bytes:
         """The file below the target that a fax is converted into."""
@@ -125,6 +130,8 @@ class Job(NamedTuple):
 
     def _done(self, fax: Waiting) -> Done:
         try:
+            if self.verify:
+                return self._verified(fax)
             data, told, incoming = _read(os.path.join(self.tree, fax.path), self.follow, self.compare)
             if incoming is not None:
                 fault, _, why = incoming.partition(": ")
@@ -134,17 +141,39 @@ class Job(NamedTuple):
             now = fax._replace(size=told.st_size, mtime=told.st_mtime, proven=fax.proven and same)
             if self.compare:
                 return self._compared(data, fax, now, told)
-            found = _checked(data, now)
-            if self.lost and found.status == FAULTY:
-                found = _counted(data, found)
-            good = self.target is not None and found.status == GOOD
-            return self._converted(data, now, told, found) if good else Done(found)
+            return self._looked_at(data, now, told, fax.digest if same else b"")
         except _NotRead as error:
             return Done(not_read(fax, *error.args))
         except MemoryError:
             return Done(not_read(fax, "Memory"))
         except Exception as error:  # whatever it is, it is of this fax alone
             return Done(not_read(fax, "WorkerDied", why=f"{type(error).__name__}: {error}"))
+
+    def _looked_at(self, data: bytes, fax: Waiting, told: os.stat_result, known: bytes) -> Done:
+        """What comes of a fax that is checked, or converted if it is good. One with other bytes than are known of it,
+        though it has the same size and time of change, is not good, and what is known stays."""
+        digest = hashlib.sha256(data).digest()
+        found = _checked(data, fax)
+        if known and digest != known:
+            if found.status == GOOD:
+                found = found._replace(status=FAULTY, fault="Changed", why=_TURNED)
+            digest = b""
+        if self.lost and found.status == FAULTY:
+            found = _counted(data, found)
+        good = self.target is not None and found.status == GOOD
+        done = self._converted(data, fax, told, found) if good else Done(found)
+        return done._replace(digest=digest or None)
+
+    def _verified(self, fax: Waiting) -> Done:
+        """Whether the only copy of a fax that was deleted, and its fields, are as they were written."""
+        assert self.target is not None
+        name, target = self.copy_of(fax.path), files.root_of(self.target)
+        for each, digest in ((name, fax.copy), (name + FIELDS, fax.fields)):
+            fault, why = files.damage(target, each, digest) if digest else ("", None)
+            if fault:
+                status = FAULTY if fault in ("NoCopy", "Changed") else NOT_READ
+                return Done(Found(*fax[:3], status, fault=fault, why=why))
+        return Done(Found(*fax[:3], GOOD))
 
     def _converted(self, data: bytes, fax: Waiting, told: os.stat_result, found: Found) -> Done:
         """What comes of a good fax: its copy is written."""

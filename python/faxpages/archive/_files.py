@@ -513,6 +513,23 @@ def is_kept(target: Root, relative: bytes, copy: Seen) -> bool:
         return False
 
 
+def damage(target: Root, relative: bytes, digest: str) -> Tuple[str, Optional[str]]:
+    """What is wrong with an only copy, which is to have this digest, and what else is known of it: NoCopy, Changed, or that
+    it cannot be read; nothing where it is right. Where no digest was kept it only has to be there."""
+    try:
+        with target.place(relative) as place, opened(place) as file:
+            if file is None:
+                return "NoCopy", None
+            same = digest == NOT_KEPT or digest_of(file) == digest
+            return ("", None) if same else ("Changed", "changed since it was written")
+    except NotOurs as error:
+        there = target.look(relative)
+        return "Open" if there is not None and stat.S_ISREG(there.st_mode) else "NoCopy", str(error)
+    except OSError as error:
+        gone = error.errno in (errno.ENOENT, errno.ENOTDIR, errno.ELOOP)
+        return ("NoCopy", None) if gone else ("Read", error.strerror)
+
+
 def is_as(target: Root, relative: bytes, copy: Seen) -> bool:
     """Whether a copy is as it was compared."""
     now = target.look(relative)

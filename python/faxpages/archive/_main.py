@@ -13,10 +13,11 @@ from typing import Callable, Dict, Iterable, List, Optional
 
 from . import _files as files
 from . import _walk as walk
+from ._database import COLUMNS, TableError, WrongTable, text_of
 from ._fax import GOOD, NOT_READ, Found, Job, NoEngine, NoWorker
 from ._marks import Owner
 from ._run import Run, Stopped, say, shown, signals, state_of, told
-from ._table import COLUMNS, Table, TableError, WrongTable, job_of, text_of, where_of
+from ._table import Table, job_of, where_of
 from ._words import words_of
 
 WORDS = 2
@@ -57,7 +58,10 @@ def _do_table(words: argparse.Namespace) -> int:
             found = merging.summary(table)
             out.write(json.dumps(found) + "\n" if words.summary else merging.prometheus(found))
         else:
-            _print_rows(words, out, (row for row in table.rows() if row.status != GOOD or not words.faulty))
+            _print_rows(words, out, (row for row in table.rows() if row.status != GOOD or row.why or not words.faulty))
+            if not words.csv and not words.json:
+                out.writelines(f"{shown(row.path)}: the only copy: {told(row).partition(': ')[2]}\n"
+                               for row in table.damaged_copies())
         out.flush()
         out.detach()
         if last is None or not last.finished():
@@ -92,8 +96,16 @@ def _do_merge(words: argparse.Namespace) -> int:
     return merging.merge(words)
 
 
+def _do_verify(words: argparse.Namespace) -> int:
+    """verify."""
+    from . import _verify as verifying  # nothing else needs it
+
+    return verifying.verify(words)
+
+
 _DO: Dict[str, Callable[[argparse.Namespace], int]] = {
-    "check": _do_tree, "convert": _do_tree, "table": _do_table, "merge": _do_merge}
+    "check": _do_tree, "convert": _do_tree, "table": _do_table, "merge": _do_merge,
+    "verify": _do_verify}
 
 
 def _said(error: object, status: int) -> int:

@@ -9,9 +9,11 @@ import os
 from typing import Any, Dict, List, Optional, Set, Tuple
 
 from . import _walk as walk
+from ._database import TableError
 from ._fax import FAULTY, GOOD, NOT_READ, OTHER, Found
 from ._run import counted, say, shown, state_of
-from ._table import Look, Table, TableError
+from ._table import Look, Table
+from ._verify import sides_of
 
 # How many rows are taken over at a time.
 _BATCH = 1000
@@ -99,9 +101,9 @@ def _take(table: Table, parts: List[Table]) -> Set[bytes]:
             table.put_deletions(some)
         looks = part.looks()
         while batch := list(itertools.islice(looks, _BATCH)):
-            table.put_looks([(row, look, copy) for row, look, copy in batch
-                             if _is_newer(row, look, table.look(row.path), row.path in there)])
-            there.update(row.path for row, _, _ in batch)
+            table.put_looks([it for it in batch if _is_newer(*it[:2], table.look(it[0].path), it[0].path in there)])
+            there.update(row.path for row, *_ in batch)
+        table.put_only_copies(part)
     return there
 
 
@@ -125,6 +127,8 @@ def summary(table: Table) -> Dict[str, Any]:
     counts, last, where = table.counts(), table.last_run(), table.where()
     found, lost = table.rows_left()
     job = table.job() or {}
+    only = table.only_copies()
+    good, bad, unread = sides_of(only)
     return {
         "tree": where.get("tree"), "target": where.get("target"), "job": job.get("job"), "share": job.get("share"),
         "run": last.number if last else None, "began": last.began if last else None,
@@ -132,7 +136,9 @@ def summary(table: Table) -> Dict[str, Any]:
         "unread_folders": last.unread if last else None, "faxes": sum(counts.values()), "good": counts[GOOD],
         "faulty": counts[FAULTY], "other": counts[OTHER], "not_read": counts[NOT_READ],
         "deleted": table.count_deleted(), "faults": table.faults(), "kinds": table.kinds(), "lacks": table.lacks(),
-        "found": found, "lost": lost}
+        "found": found, "lost": lost, "stays": table.stays(), "only_copies": good + bad + unread,
+        "only_copies_good": good, "only_copies_faults": {name: count for name, count in only.items() if name},
+        "verified": table.verified()}
 
 
 def _label(text: str) -> str:
@@ -153,7 +159,15 @@ def prometheus(told: Dict[str, Any]) -> str:
     lines += ["# HELP faxpages_archive_faults Faxes that are not good, by their fault.",
               "# TYPE faxpages_archive_faults gauge"]
     lines += [f'faxpages_archive_faults{{{labels},fault="{name}"}} {count}' for name, count in told["faults"].items()]
-    for name, help_text in (("began", "When the last run began, in seconds since 1970."),
+    lines += ["# HELP faxpages_archive_stays Good faxes that were to be deleted and are there, by the reason.",
+              "# TYPE faxpages_archive_stays gauge"]
+    lines += [f'faxpages_archive_stays{{{labels},why="{name}"}} {count}' for name, count in told["stays"].items()]
+    lines += ["# HELP faxpages_archive_only_copies Copies of faxes that have gone, by what the last verify found.",
+              "# TYPE faxpages_archive_only_copies gauge"]
+    lines += [f'faxpages_archive_only_copies{{{labels},result="{name}"}} {count}'
+              for name, count in (("good", told["only_copies_good"]), *told["only_copies_faults"].items())]
+    for name, help_text in (("verified", "When the last verify of all only copies ended, in seconds since 1970."),
+                            ("began", "When the last run began, in seconds since 1970."),
                             ("ended", "When the last run ended, in seconds since 1970."),
                             ("finished", "Whether the last run went to its end."),
                             ("deleted", "Faxes that were deleted after they had been copied."),

@@ -9,15 +9,19 @@ import os
 import signal
 import sys
 import time
-from typing import Any, Dict, Iterator, List, Optional, Set, Tuple
+from typing import TYPE_CHECKING, Any, Dict, Iterator, List, Optional, Set, Tuple
 
 from . import _files as files
 from . import _walk as walk
+from ._database import text_of
 from ._fax import FAULTY, FIELDS, GOOD, NOT_READ, OTHER, Done, Found, Job, Waiting
 from ._files import Seen, Stood
 from ._lacks import NAMES
 from ._progress import Gathering, Progress
-from ._table import Compared, Copied, Known, Look, Table, text_of
+from ._table import Compared, Copied, Known, Look, Table
+
+if TYPE_CHECKING:
+    from . import _engine as engine
 
 # Of how many rows one may be gone at once.
 _TENTH = 10
@@ -81,6 +85,8 @@ def told(row: Found) -> str:
         left = f"; {row.found} rows are left, {row.lost} are lost" if row.lost is not None else ""
         return f"{kind}fault page {row.fault_page} row {row.fault_row}: {row.fault}{tag}{left}"
     why = f": {shown(row.why)}" if row.why else ""
+    if row.status == GOOD:
+        return f"not deleted: {shown(row.why)}"
     return f"not read: {row.fault}{why}" if row.status == NOT_READ else f"fault: {row.fault}{why}"
 
 
@@ -215,6 +221,7 @@ class Run:
             self._changed += not same
             if same and not self._is_asked(fax.path, known) and self._is_copied(fax.path, known, copied):
                 return None
+            fax = fax._replace(digest=self._table.digest(fax))
         if copied is None:
             if self._target is not None and self._table.was_deleted(fax):
                 # It was about to be deleted, and is there: its copy is ours, if it is this one.
@@ -277,7 +284,10 @@ class Run:
                 why = self._disown(path)
                 if why is not None:
                     whys[path] = why
-        self._table.forget([path for path in gone if path not in whys])
+        marked = [path for path in gone if path not in whys]
+        if self._target is not None:
+            self._table.keep_only([path for path in marked if self._target.look(self._job.copy_of(path)) is not None])
+        self._table.forget(marked)
         self._table.forget_copies([path for path in unmarked if path not in whys])
         self._due -= self._table.are_not_marked(whys, self._number, self._job.owner.number)
         self._table.commit_all()
@@ -316,11 +326,7 @@ class Run:
         # What it loads takes as long as a hundred faxes to check, and a run where nothing is due does without it.
         from . import _engine as engine
 
-        words = self._words
-        batches = engine.Batches(self._table.taker())
-        if words.dask or words.scheduler is not None:
-            return engine.by_dask(self._job, words.timeout, batches, words.scheduler, words.processes)
-        return engine.by_processes(self._job, words.timeout, batches, words.processes or 1)
+        return done_of(self._words, self._job, engine.Batches(self._table.taker()))
 
     def _put(self, done: List[Done]) -> None:
         with signals.held():
@@ -382,7 +388,7 @@ class Run:
         tree = files.root_of(self._job.tree)
         lacking = kept = 0
         for done in self._done():
-            for row, copy, _, seen, copy_seen, fields_seen in done:
+            for row, copy, _, seen, copy_seen, fields_seen, _ in done:
                 if row.status != GOOD or copy is None or seen is None or copy_seen is None:
                     lacking += 1
                     self._stays(row.path, f"{row.fault}: {row.why}" if row.why else str(row.fault))
@@ -503,6 +509,15 @@ class Run:
         """The copy of a fax, and its fields, by their names below TARGET."""
         name = self._job.copy_of(it.path)
         return [(name, it.copy)] + ([(name + FIELDS, it.fields)] if it.fields is not None else [])
+
+
+def done_of(words: argparse.Namespace, job: Job, batches: "engine.Batches") -> Iterator[List[Done]]:
+    """What comes of all batches, by the engine that the words choose."""
+    from . import _engine as engine
+
+    if words.dask or words.scheduler is not None:
+        return engine.by_dask(job, words.timeout, batches, words.scheduler, words.processes)
+    return engine.by_processes(job, words.timeout, batches, words.processes or 1)
 
 
 def counted(counts: Dict[int, int]) -> str:

@@ -5,55 +5,19 @@ from __future__ import annotations
 import heapq
 import json
 import os
-import sqlite3
-import sys
 import time
-import urllib.parse
-from typing import Any, Callable, Dict, Iterator, List, NamedTuple, Optional, Tuple, Union
+from typing import Any, Callable, Dict, Iterator, List, NamedTuple, Optional, Tuple
 
-from . import _files as files
+from ._database import COLUMNS, PUT_COPY, Path, WrongTable, bytes_of, kept_path, text_of
 from ._fax import FAULTY, GOOD, NOT_READ, OTHER, Done, Found, Job, Waiting
 from ._files import Seen, Stood
 from ._marks import Owner
+from ._only_copies import OnlyCopies
 
-COLUMNS = Found._fields
-# A commit waits for the disk: at most one a second.
-_COMMIT = 1.0
-# How long a commit waits for a reader before the run goes on, and how long all else waits for a writer.
-_WAIT, _LONG = 0.25, 60.0
 # How many rows are read at a time.
 _READ = 1000
 # How many faxes are deleted at a time, with one commit before.
 _DELETED = 512
-# Of versions before 1.6, whose tables are read as they stand, and brought up to date where they are written.
-_BEFORE, _FORMAT = 2, 3
-_SCHEMA = """
-CREATE TABLE IF NOT EXISTS faxes (
-    path PRIMARY KEY NOT NULL, size INTEGER, mtime REAL, status INTEGER NOT NULL, pages INTEGER, rows INTEGER,
-    width INTEGER, x REAL, y REAL, codings TEXT, notes TEXT, fault TEXT, fault_page INTEGER, fault_row INTEGER,
-    fault_tag INTEGER, why TEXT, lacks TEXT, found INTEGER, lost INTEGER, seconds REAL);
-CREATE TABLE IF NOT EXISTS times (
-    path PRIMARY KEY NOT NULL, since REAL NOT NULL, checked REAL NOT NULL, run INTEGER NOT NULL, origin TEXT NOT NULL);
-CREATE TABLE IF NOT EXISTS copies (
-    path PRIMARY KEY NOT NULL, size INTEGER, mtime INTEGER, digest TEXT NOT NULL, ours INTEGER NOT NULL,
-    fields_size INTEGER, fields_mtime INTEGER, fields_digest TEXT, fields_ours INTEGER);
-CREATE TABLE IF NOT EXISTS deleted (
-    path NOT NULL, size INTEGER, mtime REAL, digest TEXT, deleted REAL NOT NULL);
-CREATE INDEX IF NOT EXISTS deleted_paths ON deleted (path);
-CREATE TABLE IF NOT EXISTS runs (
-    number INTEGER PRIMARY KEY, command TEXT NOT NULL, words TEXT NOT NULL, began REAL NOT NULL, ended REAL,
-    unread INTEGER NOT NULL);
-CREATE TABLE IF NOT EXISTS job (name TEXT PRIMARY KEY NOT NULL, value TEXT NOT NULL);
-"""
-_TEMPORARY = """
-CREATE TEMP TABLE waiting (
-    path BLOB NOT NULL, size INTEGER NOT NULL, mtime REAL NOT NULL, copy TEXT NOT NULL, fields TEXT NOT NULL,
-    proven INTEGER NOT NULL);
-CREATE TEMP TABLE compared (
-    path BLOB NOT NULL, device, inode, size, mtime, ctime, copy_device, copy_inode, copy_size, copy_mtime, copy_ctime,
-    fields_device, fields_inode, fields_size, fields_mtime, fields_ctime, depth);
-CREATE INDEX temp.compared_depths ON compared (depth DESC);
-"""
 # Its values are path, since, checked, run, origin, status, fault, fault_page and fault_row.
 _PUT_TIME = """
 INSERT INTO times VALUES (?1, ?2, ?3, ?4, ?5) ON CONFLICT (path) DO UPDATE SET
@@ -65,22 +29,6 @@ INSERT INTO times VALUES (?1, ?2, ?3, ?4, ?5) ON CONFLICT (path) DO UPDATE SET
 """
 _PUT = (f"INSERT INTO faxes VALUES ({', '.join('?' * len(COLUMNS))}) ON CONFLICT (path) DO UPDATE SET "
         + ", ".join(f"{name} = excluded.{name}" for name in COLUMNS[1:]))
-# The rows of a table of before: what was no fax that is read here was called faulty.
-_OF_OTHERS = f"status = {FAULTY} AND fault IN ('Unsupported', 'Magic', 'ByteOrder')"
-_OLD_ROWS = ", ".join({
-    "status": f"CASE WHEN {_OF_OTHERS} THEN {OTHER} ELSE status END AS status", "found": "NULL AS found",
-    "lost": "NULL AS lost"}.get(name, name) for name in COLUMNS)
-_PUT_COPY = "INSERT OR REPLACE INTO copies VALUES (?, ?, ?, ?, ?, ?, ?, ?, ?)"
-
-Path = Union[str, bytes]
-
-
-class TableError(Exception):
-    """A table is of another job, in use, or none."""
-
-
-class WrongTable(TableError):
-    """A table is of another job than the words ask for."""
 
 
 class Known(NamedTuple):
@@ -124,6 +72,10 @@ class Compared(NamedTuple):
     depth: int = 0
 
 
+# A row, when its fax was looked at, and the values of what is known of its copy and of its digest.
+Whole = Tuple[Found, Look, Optional[Tuple[Any, ...]], Optional[Tuple[Any, ...]]]
+
+
 class Runs(NamedTuple):
     """A run: its number, its command and words, when it began and ended, and how many folders it could not read."""
 
@@ -145,175 +97,11 @@ class Runs(NamedTuple):
         return "finished" if not self.unread else f"{self.unread} folders or parts not read"
 
 
-def kept_path(path: bytes) -> Path:
-    """A path as it is kept: a text where it is UTF-8, else its bytes as a BLOB."""
-    try:
-        return path.decode()
-    except UnicodeDecodeError:
-        return path
-
-
-def bytes_of(path: Path) -> bytes:
-    """The bytes of a path that was kept."""
-    return path.encode() if isinstance(path, str) else path
-
-
-def text_of(path: bytes) -> str:
-    """A path in JSON: a byte that is no UTF-8 is a lone surrogate."""
-    return path.decode("utf-8", "surrogateescape")
-
-
-class Table:
-    """A table that is open. Rows are committed each second, and where it is closed without an exception."""
-
-    def __init__(self, name: str, new: bool = True) -> None:
-        self.name = name
-        if not new and not os.path.exists(name):
-            raise TableError(f"there is no table {name}")
-        self._lock = self._locked() if new else None
-        self._began: Optional[float] = None
-        # Nothing but a commit has to wait for readers.
-        self._base = sqlite3.connect(_address(name, new), timeout=_LONG, isolation_level=None, uri=True)
-        try:
-            self._base.execute("PRAGMA cache_spill = 0")
-            if new:
-                self._make()
-            elif self._format() == _BEFORE:
-                self._base.execute(f"CREATE TEMP VIEW faxes AS SELECT {_OLD_ROWS} FROM main.faxes")
-            elif self._format() != _FORMAT:
-                raise TableError(f"{name} is none of this version's tables; a run of check or convert makes it one")
-        except BaseException:
-            self._close()
-            raise
+class Table(OnlyCopies):
+    """A table that is open."""
 
     def __enter__(self) -> "Table":
         return self
-
-    def __exit__(self, kind: object, *_: object) -> None:
-        if kind is None:
-            self.commit_all()
-        self._close()
-
-    def _close(self) -> None:
-        self._base.close()
-        if self._lock:
-            self._lock.close()
-
-    def _locked(self) -> Any:
-        try:
-            # A table by two names, as by a link, has one lock.
-            return files.lock(f"{os.path.realpath(self.name)}-lock")
-        except BlockingIOError:
-            raise TableError(f"another run writes to {self.name}") from None
-
-    def _format(self) -> int:
-        return int(self._base.execute("PRAGMA user_version").fetchone()[0])
-
-    def _is_foreign(self) -> bool:
-        """Whether there are tables already, and these are not those of an archive."""
-        tables = {str(name) for (name,) in self._base.execute("SELECT name FROM sqlite_master")}
-        return self._format() not in (0, _BEFORE, _FORMAT) or bool(tables) and not {"faxes", "times", "job"} <= tables
-
-    def _make(self) -> None:
-        """Makes the tables, and brings those of an earlier version up to date."""
-        if self._is_foreign():
-            raise TableError(f"{self.name} is a database of another program, or of a later version, and stays as it is")
-        self._base.executescript(_TEMPORARY)
-        if self._format() == _FORMAT:
-            return
-        self.begin()
-        if self._format() == _BEFORE:
-            self._renew()
-            return
-        old = [row[1] for row in self._base.execute("PRAGMA table_info(faxes)")]
-        if old:
-            for name in ("faxes", "times"):
-                self._base.execute(f"ALTER TABLE {name} RENAME TO old_{name}")
-        for statement in filter(str.strip, _SCHEMA.split(";")):
-            self._base.execute(statement)
-        if old:
-            self._upgrade(old)
-        number = os.urandom(8).hex()
-        self._base.execute("INSERT OR REPLACE INTO job VALUES ('table', ?)", (number,))
-        self._base.execute("UPDATE times SET origin = ?", (number,))
-        self._base.execute(f"PRAGMA user_version = {_FORMAT}")
-        self.commit_all()
-
-    def _renew(self) -> None:
-        """Brings the rows of the version before up to date."""
-        self._base.execute("ALTER TABLE faxes RENAME TO old_faxes")
-        self._base.execute(_SCHEMA.split(";")[0])
-        self._base.execute(f"INSERT INTO faxes SELECT {_OLD_ROWS} FROM old_faxes")
-        self._base.execute("DROP TABLE old_faxes")
-        self._base.execute(f"PRAGMA user_version = {_FORMAT}")
-        self.commit_all()
-
-    def _upgrade(self, columns: List[str]) -> None:
-        """Takes over the rows of version 1.4, whose paths were whole. What it wrote is known without a digest."""
-        told = json.loads(self._value("job") or "{}")
-        tree = os.path.join(str(told.get("tree", "")).encode("utf-8", "surrogateescape"), b"")
-        names = ", ".join(columns)
-        for path, *rest in self._base.execute(f"SELECT {names} FROM old_faxes").fetchall():
-            whole = bytes_of(path)
-            if not whole.startswith(tree):
-                continue
-            below = kept_path(whole[len(tree):])
-            marks = ", ".join("?" * len(columns))
-            self._base.execute(f"INSERT INTO faxes ({names}) VALUES ({marks})", (below, *rest))
-            self._base.execute("INSERT INTO times SELECT ?, since, checked, 0, '' FROM old_times WHERE path = ?",
-                               (below, path))
-            if told.get("job") == "convert" and rest[columns.index("status") - 1] == 0:
-                unknown = (None, None, files.NOT_KEPT, 1)
-                self._base.execute(_PUT_COPY, (below, *unknown, *unknown))
-        self._base.execute(f"UPDATE faxes SET status = {OTHER} WHERE {_OF_OTHERS}")
-        for name in ("old_faxes", "old_times"):
-            self._base.execute(f"DROP TABLE {name}")
-        where = {name: told.pop(name) for name in ("tree", "target") if name in told}
-        self._base.executemany("INSERT OR REPLACE INTO job VALUES (?, ?)", [
-            ("job", json.dumps(told)), ("where", json.dumps(where))])
-
-    def begin(self) -> None:
-        """Begins a transaction, where there is none."""
-        if self._began is None:
-            self._base.execute("BEGIN IMMEDIATE")
-            self._began = time.monotonic()
-
-    def commit(self) -> bool:
-        """Ends the transaction, where there is one; not where a reader has the table meanwhile. Whether it is ended."""
-        if self._began is None or not self._base.in_transaction:
-            self._began = None
-            return True
-        try:
-            self._base.execute(f"PRAGMA busy_timeout = {int(_WAIT * 1000)}")
-            self._base.execute("COMMIT")
-            self._began = None
-            return True
-        except sqlite3.OperationalError as error:
-            if "locked" not in str(error):
-                raise
-            self._began = time.monotonic()
-            return False
-        finally:
-            self._base.execute(f"PRAGMA busy_timeout = {int(_LONG * 1000)}")
-
-    def commit_all(self) -> None:
-        """Ends the transaction, however long a reader has the table."""
-        said = False
-        while not self.commit():
-            if not said:
-                print(f"faxpages-archive: another program reads {self.name}: waiting for it", file=sys.stderr,
-                      flush=True)
-            said = True
-
-    def turn(self) -> None:
-        """Commits, where that is due."""
-        if self._began is not None and time.monotonic() - self._began >= _COMMIT:
-            self.commit()
-
-    def _value(self, name: str) -> Optional[str]:
-        for (value,) in self._base.execute("SELECT value FROM job WHERE name = ?", (name,)):
-            return str(value)
-        return None
 
     def number(self) -> str:
         """The number of the table, by which its rows and its copies are known."""
@@ -405,6 +193,12 @@ class Table:
             return Copied(Stood(row[1], row[2], row[3], bool(row[4])), fields)
         return None
 
+    def digest(self, fax: Waiting) -> bytes:
+        """The digest of a fax as it was read before with this size and time; nothing where none is known."""
+        found = self._base.execute("SELECT digest FROM originals WHERE path = ? AND size = ? AND mtime = ?",
+                                   (kept_path(fax.path), fax.size, fax.mtime)).fetchone()
+        return bytes(found[0]) if found is not None else b""
+
     def last(self) -> int:
         """The greatest number of a row."""
         (last,) = self._base.execute("SELECT ifnull(max(rowid), 0) FROM faxes").fetchone()
@@ -432,8 +226,11 @@ class Table:
         now = time.time()
         look = Look(now, now, run, origin)
         self._put([(one.found, look) for one in done])
+        self._base.executemany("INSERT OR REPLACE INTO originals VALUES (?, ?, ?, ?)", (
+            (kept_path(one.found.path), one.found.size, one.found.mtime, one.digest) for one in done if one.digest))
         copies = [one for one in done if one.copy is not None]
-        self._base.executemany(_PUT_COPY, (
+        self.drop_only([one.found.path for one in copies if one.copy is not None and one.copy.ours])
+        self._base.executemany(PUT_COPY, (
             (kept_path(one.found.path), *(one.copy or ()), *(one.fields or (None,) * 4)) for one in copies))
 
     def _put(self, rows: List[Tuple[Found, Look]]) -> None:
@@ -452,7 +249,7 @@ class Table:
         """Takes out the rows of these faxes, and what is known of their copies."""
         self.begin()
         kept = [(kept_path(path),) for path in paths]
-        for name in ("faxes", "times", "copies"):
+        for name in ("faxes", "times", "copies", "originals"):
             self._base.executemany(f"DELETE FROM {name} WHERE path = ?", kept)
 
     def forget_copies(self, paths: List[bytes]) -> None:
@@ -486,6 +283,7 @@ class Table:
         self._base.executemany(
             "INSERT INTO deleted SELECT path, faxes.size, faxes.mtime, digest, ? FROM faxes JOIN copies USING (path) "
             "WHERE path = ?", ((0, kept_path(path)) for path in paths))
+        self.keep_only(paths)
         self.forget(paths)
         self.commit_all()
         return rows
@@ -501,6 +299,7 @@ class Table:
         """Puts back the rows of faxes that were about to be deleted and stay. What was known of the copies is not put
         back: they may be marked as the only ones, and are looked at anew. Committed."""
         self._put(rows)
+        self.drop_only([row.path for row, _ in rows])
         self.commit_all()
 
     def stay(self, whys: Dict[bytes, str]) -> None:
@@ -509,6 +308,12 @@ class Table:
         self._base.executemany("UPDATE faxes SET why = ? WHERE path = ?",
                                ((why, kept_path(path)) for path, why in whys.items()))
         self.commit_all()
+
+    def stays(self) -> Dict[str, int]:
+        """How many good faxes were to be deleted and are there, by the reason."""
+        return dict(self._base.execute(
+            "SELECT substr(why, 1, instr(why || ':', ':') - 1), count(*) FROM faxes WHERE status = ? AND why IS NOT NULL "
+            "GROUP BY 1 ORDER BY 1", (GOOD,)))
 
     def about_to_be_deleted(self) -> List[bytes]:
         """The faxes that were about to be deleted, and of which it is not known whether they are gone."""
@@ -559,7 +364,7 @@ class Table:
 
     def wait(self, fax: Waiting) -> None:
         """Notes that a fax is due. It is kept outside the table, and goes with this process."""
-        self._base.execute("INSERT INTO waiting VALUES (?, ?, ?, ?, ?, ?)", fax)
+        self._base.execute("INSERT INTO waiting VALUES (?, ?, ?, ?, ?, ?, ?)", fax)
 
     def wait_for_good(self) -> None:
         """Notes that all good faxes of the table are due, with what is known of their copies, and that none is known to
@@ -569,7 +374,7 @@ class Table:
         self._base.execute("DELETE FROM waiting")
         self._base.execute(
             "INSERT INTO waiting SELECT CAST(path AS BLOB), faxes.size, faxes.mtime, ifnull(digest, ''), "
-            "ifnull(fields_digest, ''), ifnull(ours, 0) AND ifnull(fields_ours, 1) FROM faxes LEFT JOIN copies "
+            "ifnull(fields_digest, ''), ifnull(ours, 0) AND ifnull(fields_ours, 1), x'' FROM faxes LEFT JOIN copies "
             "USING (path) WHERE status = ?", (GOOD,))
 
     def not_good(self) -> Iterator[bytes]:
@@ -586,7 +391,7 @@ class Table:
             found = self._base.execute(
                 "SELECT rowid, * FROM waiting WHERE rowid > ? ORDER BY rowid LIMIT ?", (last, count)).fetchall()
             last = found[-1][0] if found else last
-            return [Waiting(row[1], row[2], row[3], row[4], row[5], bool(row[6])) for row in found]
+            return [Waiting(row[1], row[2], row[3], row[4], row[5], bool(row[6]), row[7]) for row in found]
 
         return take
 
@@ -626,18 +431,19 @@ class Table:
             yield from found
             found = self._base.execute(query.format(">"), (found[-1][0],)).fetchall()
 
-    def looks(self) -> Iterator[Tuple[Found, Look, Optional[Tuple[Any, ...]]]]:
-        """All rows with the looks at their faxes, and what is known of their copies, in no order."""
+    def looks(self) -> Iterator[Whole]:
+        """All rows with the looks at their faxes, what is known of their copies, and their digests, in no order."""
         names = ", ".join(f"faxes.{name}" for name in COLUMNS)
         copies = ("copies.digest, copies.size, copies.mtime, copies.ours, fields_size, fields_mtime, fields_digest, "
-                  "fields_ours")
+                  "fields_ours, originals.size, originals.mtime, originals.digest")
         found = self._base.execute(f"SELECT {names}, since, checked, run, origin, {copies} FROM faxes JOIN times "
-                                   "USING (path) LEFT JOIN copies USING (path)")
+                                   "USING (path) LEFT JOIN copies USING (path) LEFT JOIN originals USING (path)")
         size = len(COLUMNS)
         for path, *rest in found:
-            copy = rest[size + 3:]
+            copy, original = rest[size + 3:-3], rest[-3:]
             kept = (copy[1], copy[2], copy[0], *copy[3:]) if copy[0] is not None else None
-            yield Found(bytes_of(path), *rest[:size - 1]), Look(*rest[size - 1:size + 3]), kept
+            yield (Found(bytes_of(path), *rest[:size - 1]), Look(*rest[size - 1:size + 3]), kept,
+                   tuple(original) if original[2] is not None else None)
 
     def look(self, path: bytes) -> Optional[Tuple[float, int, Look]]:
         """The mtime and the status of a fax, and when it was looked at."""
@@ -647,10 +453,22 @@ class Table:
             return mtime, status, Look(*look)
         return None
 
-    def put_looks(self, looks: List[Tuple[Found, Look, Optional[Tuple[Any, ...]]]]) -> None:
+    def put_looks(self, looks: List[Whole]) -> None:
         """Writes rows of another table."""
-        self._put([(row, look) for row, look, _ in looks])
-        self._base.executemany(_PUT_COPY, ((kept_path(row.path), *copy) for row, _, copy in looks if copy is not None))
+        self._put([(row, look) for row, look, _, _ in looks])
+        self._base.executemany(PUT_COPY, ((kept_path(row.path), *copy) for row, _, copy, _ in looks if copy is not None))
+        self._base.executemany("INSERT OR REPLACE INTO originals VALUES (?, ?, ?, ?)", (
+            (kept_path(row.path), *original) for row, _, _, original in looks if original is not None))
+
+    def put_only_copies(self, part: "Table") -> None:
+        """Takes over the only copies that a part knows, and what it found of them, but for what has a copy here."""
+        self.begin()
+        self._base.executemany(
+            "INSERT OR IGNORE INTO only_copies SELECT ?1, ?2, ?3, ?4, ?5, ?6, 0 "
+            "WHERE ?1 NOT IN (SELECT path FROM copies WHERE ours)",
+            part._base.execute("SELECT path, digest, fields_digest, fault, why, verified FROM only_copies"))
+        if part._value("only copies") is None:
+            self._base.execute("DELETE FROM job WHERE name = 'only copies'")
 
     def counts(self) -> Dict[int, int]:
         """How many rows have each status."""
@@ -682,11 +500,6 @@ def _compared(row: Tuple[Any, ...]) -> Compared:
     """A fax that was compared, of its row."""
     fields = Seen(*row[11:16]) if row[11] is not None else None
     return Compared(row[0], Seen(*row[1:6]), Seen(*row[6:11]), fields, row[16])
-
-
-def _address(name: str, new: bool) -> str:
-    """How SQLite is told a file, whatever its name. It makes none where there has to be one."""
-    return f"file:{urllib.parse.quote(os.fsencode(os.path.abspath(name)))}?mode={'rwc' if new else 'rw'}"
 
 
 def job_of(job: Job, share: Tuple[int, int]) -> Dict[str, Any]:

@@ -31,13 +31,17 @@ def _given_up(text: str) -> List[str]:
     return found
 
 
-def _tree_words(command: argparse.ArgumentParser, again: List[str]) -> None:
+def _engine_words(command: argparse.ArgumentParser) -> None:
     command.add_argument("--table", required=True, metavar="TABLE.sqlite", help="where the rows are kept")
     engines = command.add_mutually_exclusive_group()
     engines.add_argument("--dask", action="store_true", help="on a local cluster of Dask")
     engines.add_argument("--scheduler", metavar="ADDRESS", help="on the cluster of this scheduler of Dask")
     command.add_argument("--processes", type=_at_least(int, 1), metavar="N", help="by so many workers (1)")
     command.add_argument("--timeout", type=_at_least(float, 0.001), metavar="SECONDS", help="the most for one fax")
+
+
+def _tree_words(command: argparse.ArgumentParser, again: List[str]) -> None:
+    _engine_words(command)
     command.add_argument("--again", choices=again, help="do those again that could not be read, these and the faulty "
                                                         "ones, those whose copy is to be read again, or all")
     command.add_argument("--share", type=walk.share_of, metavar="I/N", help="do one of N shares, I from 0")
@@ -84,6 +88,11 @@ def _parser() -> argparse.ArgumentParser:
     form.add_argument("--summary", action="store_true", help="what they come to, as JSON")
     form.add_argument("--prometheus", action="store_true", help="the same as text for Prometheus")
     table.add_argument("--faulty", action="store_true", help="the bad faxes alone; by itself, a line of text for each")
+    verify = commands.add_parser("verify", help="compare the only copies with their digests", allow_abbrev=False)
+    verify.add_argument("target", metavar="TARGET")
+    _engine_words(verify)
+    verify.add_argument("--gone", action="store_true", help="forget the copies that are gone")
+    verify.add_argument("--names", action="store_true", help="say of each copy that is not good what is wrong with it")
     merge = commands.add_parser("merge", help="make one table of parts", allow_abbrev=False)
     merge.add_argument("name", metavar="TABLE.sqlite")
     merge.add_argument("parts", nargs="+", metavar="PART.sqlite")
@@ -100,6 +109,8 @@ def words_of(given: Optional[List[str]]) -> argparse.Namespace:
             parser.error("table needs one of --csv, --json, --summary, --prometheus and --faulty")
         if words.faulty and (words.summary or words.prometheus):
             parser.error("--faulty is for --csv and --json, or stands alone")
+    if words.command == "verify" and words.scheduler is not None and words.processes is not None:
+        parser.error("--processes is not for a scheduler, which has its own")
     if words.command in ("check", "convert"):
         _look_at_tree_words(parser, words)
     return words

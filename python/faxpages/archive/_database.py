@@ -1,0 +1,262 @@
+"""The database of a table: its tables, those of earlier versions, and transactions."""
+
+from __future__ import annotations
+
+import json
+import os
+import sqlite3
+import sys
+import time
+import urllib.parse
+from typing import Any, List, Optional, Union
+
+from . import _files as files
+from ._fax import FAULTY, OTHER, Found
+
+COLUMNS = Found._fields
+# A commit waits for the disk: at most one a second.
+_COMMIT = 1.0
+# How long a commit waits for a reader before the run goes on, and how long all else waits for a writer.
+_WAIT, _LONG = 0.25, 60.0
+# Of versions before 1.6, whose tables are read as they stand, and brought up to date where they are written.
+_BEFORE, _FORMAT = 2, 3
+_SCHEMA = """
+CREATE TABLE IF NOT EXISTS faxes (
+    path PRIMARY KEY NOT NULL, size INTEGER, mtime REAL, status INTEGER NOT NULL, pages INTEGER, rows INTEGER,
+    width INTEGER, x REAL, y REAL, codings TEXT, notes TEXT, fault TEXT, fault_page INTEGER, fault_row INTEGER,
+    fault_tag INTEGER, why TEXT, lacks TEXT, found INTEGER, lost INTEGER, seconds REAL);
+CREATE TABLE IF NOT EXISTS times (
+    path PRIMARY KEY NOT NULL, since REAL NOT NULL, checked REAL NOT NULL, run INTEGER NOT NULL, origin TEXT NOT NULL);
+CREATE TABLE IF NOT EXISTS copies (
+    path PRIMARY KEY NOT NULL, size INTEGER, mtime INTEGER, digest TEXT NOT NULL, ours INTEGER NOT NULL,
+    fields_size INTEGER, fields_mtime INTEGER, fields_digest TEXT, fields_ours INTEGER);
+CREATE TABLE IF NOT EXISTS deleted (
+    path NOT NULL, size INTEGER, mtime REAL, digest TEXT, deleted REAL NOT NULL);
+CREATE INDEX IF NOT EXISTS deleted_paths ON deleted (path);
+CREATE TABLE IF NOT EXISTS runs (
+    number INTEGER PRIMARY KEY, command TEXT NOT NULL, words TEXT NOT NULL, began REAL NOT NULL, ended REAL,
+    unread INTEGER NOT NULL);
+CREATE TABLE IF NOT EXISTS job (name TEXT PRIMARY KEY NOT NULL, value TEXT NOT NULL);
+"""
+# What versions before 1.12 did not keep: the digests of faxes as they were read; and the only copies of faxes that have
+# gone, and what was found of each by which verification.
+_SINCE = """
+CREATE TABLE IF NOT EXISTS {0}originals (path PRIMARY KEY NOT NULL, size INTEGER, mtime REAL, digest BLOB NOT NULL);
+CREATE TABLE IF NOT EXISTS {0}only_copies (
+    path PRIMARY KEY NOT NULL, digest TEXT, fields_digest TEXT, fault TEXT, why TEXT, verified REAL, run INTEGER NOT NULL);
+"""
+_TEMPORARY = """
+CREATE TEMP TABLE waiting (
+    path BLOB NOT NULL, size INTEGER NOT NULL, mtime REAL NOT NULL, copy TEXT NOT NULL, fields TEXT NOT NULL,
+    proven INTEGER NOT NULL, digest BLOB NOT NULL);
+CREATE TEMP TABLE compared (
+    path BLOB NOT NULL, device, inode, size, mtime, ctime, copy_device, copy_inode, copy_size, copy_mtime, copy_ctime,
+    fields_device, fields_inode, fields_size, fields_mtime, fields_ctime, depth);
+CREATE INDEX temp.compared_depths ON compared (depth DESC);
+"""
+# The rows of a table of before: what was no fax that is read here was called faulty.
+_OF_OTHERS = f"status = {FAULTY} AND fault IN ('Unsupported', 'Magic', 'ByteOrder')"
+_OLD_ROWS = ", ".join({
+    "status": f"CASE WHEN {_OF_OTHERS} THEN {OTHER} ELSE status END AS status", "found": "NULL AS found",
+    "lost": "NULL AS lost"}.get(name, name) for name in COLUMNS)
+PUT_COPY = "INSERT OR REPLACE INTO copies VALUES (?, ?, ?, ?, ?, ?, ?, ?, ?)"
+
+Path = Union[str, bytes]
+
+
+class TableError(Exception):
+    """A table is of another job, in use, or none."""
+
+
+class WrongTable(TableError):
+    """A table is of another job than the words ask for."""
+
+
+def kept_path(path: bytes) -> Path:
+    """A path as it is kept: a text where it is UTF-8, else its bytes as a BLOB."""
+    try:
+        return path.decode()
+    except UnicodeDecodeError:
+        return path
+
+
+def bytes_of(path: Path) -> bytes:
+    """The bytes of a path that was kept."""
+    return path.encode() if isinstance(path, str) else path
+
+
+def text_of(path: bytes) -> str:
+    """A path in JSON: a byte that is no UTF-8 is a lone surrogate."""
+    return path.decode("utf-8", "surrogateescape")
+
+
+class Database:
+    """A database that is open. Rows are committed each second, and where it is closed without an exception."""
+
+    def __init__(self, name: str, new: bool = True) -> None:
+        self.name = name
+        if not new and not os.path.exists(name):
+            raise TableError(f"there is no table {name}")
+        self._lock = self._locked() if new else None
+        self._began: Optional[float] = None
+        self._verified = 0
+        # Nothing but a commit has to wait for readers.
+        self._base = sqlite3.connect(_address(name, new), timeout=_LONG, isolation_level=None, uri=True)
+        try:
+            self._base.execute("PRAGMA cache_spill = 0")
+            if new:
+                self._make()
+                return
+            if not self._has_all():
+                self._base.executescript(_SINCE.format("temp."))
+            if self._format() == _BEFORE:
+                self._base.execute(f"CREATE TEMP VIEW faxes AS SELECT {_OLD_ROWS} FROM main.faxes")
+            elif self._format() != _FORMAT:
+                raise TableError(f"{name} is none of this version's tables; a run of check or convert makes it one")
+        except BaseException:
+            self._close()
+            raise
+
+    def __exit__(self, kind: object, *_: object) -> None:
+        if kind is None:
+            self.commit_all()
+        self._close()
+
+    def _close(self) -> None:
+        self._base.close()
+        if self._lock:
+            self._lock.close()
+
+    def _locked(self) -> Any:
+        try:
+            # A table by two names, as by a link, has one lock.
+            return files.lock(f"{os.path.realpath(self.name)}-lock")
+        except BlockingIOError:
+            raise TableError(f"another run writes to {self.name}") from None
+
+    def _format(self) -> int:
+        return int(self._base.execute("PRAGMA user_version").fetchone()[0])
+
+    def _is_foreign(self) -> bool:
+        """Whether there are tables already, and these are not those of an archive."""
+        tables = {str(name) for (name,) in self._base.execute("SELECT name FROM sqlite_master")}
+        return self._format() not in (0, _BEFORE, _FORMAT) or bool(tables) and not {"faxes", "times", "job"} <= tables
+
+    def _make(self) -> None:
+        """Makes the tables, and brings those of an earlier version up to date."""
+        if self._is_foreign():
+            raise TableError(f"{self.name} is a database of another program, or of a later version, and stays as it is")
+        self._base.executescript(_TEMPORARY)
+        if self._format() == _FORMAT:
+            if not self._has_all():
+                self.begin()
+                self._put_tables(_SINCE.format(""))
+                self.commit_all()
+            return
+        self.begin()
+        self._put_tables(_SINCE.format(""))
+        if self._format() == _BEFORE:
+            self._renew()
+            return
+        old = [row[1] for row in self._base.execute("PRAGMA table_info(faxes)")]
+        if old:
+            for name in ("faxes", "times"):
+                self._base.execute(f"ALTER TABLE {name} RENAME TO old_{name}")
+        self._put_tables(_SCHEMA)
+        if old:
+            self._upgrade(old)
+        number = os.urandom(8).hex()
+        self._base.execute("INSERT OR REPLACE INTO job VALUES ('table', ?)", (number,))
+        self._base.execute("UPDATE times SET origin = ?", (number,))
+        self._base.execute(f"PRAGMA user_version = {_FORMAT}")
+        self.commit_all()
+
+    def _has_all(self) -> bool:
+        """Whether there are the tables that versions before 1.12 did not have."""
+        found = self._base.execute("SELECT 1 FROM main.sqlite_master WHERE name = 'only_copies'").fetchone()
+        return found is not None
+
+    def _put_tables(self, statements: str) -> None:
+        for statement in filter(str.strip, statements.split(";")):
+            self._base.execute(statement)
+
+    def _renew(self) -> None:
+        """Brings the rows of the version before up to date."""
+        self._base.execute("ALTER TABLE faxes RENAME TO old_faxes")
+        self._base.execute(_SCHEMA.split(";")[0])
+        self._base.execute(f"INSERT INTO faxes SELECT {_OLD_ROWS} FROM old_faxes")
+        self._base.execute("DROP TABLE old_faxes")
+        self._base.execute(f"PRAGMA user_version = {_FORMAT}")
+        self.commit_all()
+
+    def _upgrade(self, columns: List[str]) -> None:
+        """Takes over the rows of version 1.4, whose paths were whole. What it wrote is known without a digest."""
+        told = json.loads(self._value("job") or "{}")
+        tree = os.path.join(str(told.get("tree", "")).encode("utf-8", "surrogateescape"), b"")
+        names = ", ".join(columns)
+        for path, *rest in self._base.execute(f"SELECT {names} FROM old_faxes").fetchall():
+            whole = bytes_of(path)
+            if not whole.startswith(tree):
+                continue
+            below = kept_path(whole[len(tree):])
+            marks = ", ".join("?" * len(columns))
+            self._base.execute(f"INSERT INTO faxes ({names}) VALUES ({marks})", (below, *rest))
+            self._base.execute("INSERT INTO times SELECT ?, since, checked, 0, '' FROM old_times WHERE path = ?",
+                               (below, path))
+            if told.get("job") == "convert" and rest[columns.index("status") - 1] == 0:
+                unknown = (None, None, files.NOT_KEPT, 1)
+                self._base.execute(PUT_COPY, (below, *unknown, *unknown))
+        self._base.execute(f"UPDATE faxes SET status = {OTHER} WHERE {_OF_OTHERS}")
+        for name in ("old_faxes", "old_times"):
+            self._base.execute(f"DROP TABLE {name}")
+        where = {name: told.pop(name) for name in ("tree", "target") if name in told}
+        self._base.executemany("INSERT OR REPLACE INTO job VALUES (?, ?)", [
+            ("job", json.dumps(told)), ("where", json.dumps(where))])
+
+    def begin(self) -> None:
+        """Begins a transaction, where there is none."""
+        if self._began is None:
+            self._base.execute("BEGIN IMMEDIATE")
+            self._began = time.monotonic()
+
+    def commit(self) -> bool:
+        """Ends the transaction, where there is one; not where a reader has the table meanwhile. Whether it is ended."""
+        if self._began is None or not self._base.in_transaction:
+            self._began = None
+            return True
+        try:
+            self._base.execute(f"PRAGMA busy_timeout = {int(_WAIT * 1000)}")
+            self._base.execute("COMMIT")
+            self._began = None
+            return True
+        except sqlite3.OperationalError as error:
+            if "locked" not in str(error):
+                raise
+            self._began = time.monotonic()
+            return False
+        finally:
+            self._base.execute(f"PRAGMA busy_timeout = {int(_LONG * 1000)}")
+
+    def commit_all(self) -> None:
+        """Ends the transaction, however long a reader has the table."""
+        said = False
+        while not self.commit():
+            if not said:
+                print(f"faxpages-archive: another program reads {self.name}: waiting for it", file=sys.stderr,
+                      flush=True)
+            said = True
+
+    def turn(self) -> None:
+        """Commits, where that is due."""
+        if self._began is not None and time.monotonic() - self._began >= _COMMIT:
+            self.commit()
+
+    def _value(self, name: str) -> Optional[str]:
+        for (value,) in self._base.execute("SELECT value FROM job WHERE name = ?", (name,)):
+            return str(value)
+        return None
+
+
+def _address(name: str, new: bool) -> str:
+    """How SQLite is told a file, whatever its name. It makes none where there has to be one."""
+    return f"file:{urllib.parse.quote(os.fsencode(os.path.abspath(name)))}?mode={'rwc' if new else 'rw'}"
