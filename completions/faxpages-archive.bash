@@ -3,8 +3,8 @@
 # The options of a command, and those of a command of faxpages-archive.
 _faxpages_command_options() {
     case $1 in
-    faxpages-archive-check) echo --table --dask --scheduler --processes --timeout --again --share --follow --gone --names --faults-ok --lost ;;
-    faxpages-archive-convert) echo --to --order --k --strip --align --fields --adopt --delete --all-or-nothing --give-up --table --dask --scheduler --processes --timeout --again --share --follow --gone --names --faults-ok ;;
+    faxpages-archive-check) echo --table --dask --scheduler --processes --timeout --again --share --follow --renew --gone --names --faults-ok --lost ;;
+    faxpages-archive-convert) echo --to --order --k --strip --align --fields --adopt --delete --all-or-nothing --give-up --table --dask --scheduler --processes --timeout --again --share --follow --renew --gone --names --faults-ok ;;
     faxpages-archive-table) echo --csv --json --summary --prometheus --faulty ;;
     faxpages-archive-verify) echo --table --dask --scheduler --processes --timeout --gone --names ;;
     faxpages-compare) echo --replace ;;

@@ -10,7 +10,7 @@ complete -c faxpages-archive -n '__fish_seen_subcommand_from check convert' -l s
 for option in dask gone names
     complete -c faxpages-archive -n '__fish_seen_subcommand_from check convert verify' -l $option
 end
-for option in follow faults-ok
+for option in follow renew faults-ok
     complete -c faxpages-archive -n '__fish_seen_subcommand_from check convert' -l $option
 end
 complete -c faxpages-archive -n '__fish_seen_subcommand_from check convert' -l again -x -a 'unread faulty copies all'

@@ -185,7 +185,7 @@ told() {
 #   incoming FILE [--whole]
 incoming() {
     if [ "${2-}" != --whole ] &&
-        [ -n "$(find -L "$1" -prune -newermt '1 minute ago' ! -newermt '1 minute' 2>/dev/null)" ]; then
+        [ -n "$(find -L "$1" -prune -newermt '1 minute ago' ! -newermt '1 minute')" ]; then
         echo 'it changed within the last minute'
     elif is_written "$1" 2>/dev/null; then
         echo 'another program has it open to write, or has locked it'

@@ -98,7 +98,7 @@ def make_older(table: str) -> None:
         base.execute("UPDATE faxes SET status = 1, why = NULL WHERE status = 2")
         base.execute("DROP TABLE new")
         base.execute("DELETE FROM job WHERE name IN ('only', 'parts')")
-        for table in ("originals", "only_copies"):
+        for table in ("originals", "only_copies", "sums"):
             base.execute(f"DROP TABLE IF EXISTS {table}")
         base.execute("DELETE FROM job WHERE name IN ('only copies', 'verification')")
         base.execute("PRAGMA user_version = 2")
@@ -113,7 +113,7 @@ def older(room: Room, check: list[str], rows: dict[str, dict[str, str]]) -> None
     for way in ("as it stands", "brought up to date"):
         found = {os.path.basename(path).decode()[:-4]: row["status"] for path, row in room.rows("kinds/t.sqlite").items()}
         room.claim(f"a table of 1.5, {way}", found, wanted)
-        version = 2 if way == "as it stands" else 3
+        version = 2 if way == "as it stands" else 4
         room.claim(f"a table of 1.5, {way}: its version", ask(room, "kinds/t.sqlite", "PRAGMA user_version"), [(version,)])
         out = room.run(*check)[1].decode()
         room.claim(f"a table of 1.5, {way}: goes on", f"; 0 done now, {len(rows)} before, 0 gone" in out)

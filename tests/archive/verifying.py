@@ -202,8 +202,8 @@ def turned(room: Room, *_given: object) -> None:
         put(f"{place}/tree/b.tif", fax, mtime=TIME)
         room.claim(f"{job}: first", playing.run(words, place, playing.Trouble()).status, 0)
         for way, data, again, wanted in (
-                ("turned", wrong, [], 0), ("turned", wrong, ["--again", "all"], 1), ("turned still", wrong, ["--again", "all"], 1),
-                ("turned still", wrong, [], 1), ("cut", fax[:4] + bytes(len(fax) - 4), ["--again", "all"], 1),
+                ("turned", wrong, list[str](), 0), ("turned", wrong, ["--again", "all"], 1), ("turned still", wrong, ["--again", "all"], 1),
+                ("turned still", wrong, list[str](), 1), ("cut", fax[:4] + bytes(len(fax) - 4), ["--again", "all"], 1),
                 ("turned after that", wrong, ["--again", "all"], 1), ("right", fax, ["--again", "faulty"], 0),
                 ("turned again", wrong, ["--again", "all"], 1)):
             put(f"{place}/tree/a.tif", data, mtime=TIME)

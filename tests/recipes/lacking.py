@@ -23,7 +23,9 @@ ELSEWHERE = {"python3"}
 SHELLS = {"sh", "bash", "dash", "rbash"}
 # A link, in whose place a copy is made; a file that is opened, of which `reason` is asked next; numbers of a cut file;
 # by which signal a program ended, which `told` says.
-SAID_ELSEWHERE = r"! ln |\{ true <|^od -A n |^exec 3>&2 "
+SAID_ELSEWHERE = r"! ln |\{ true <|^od -A n |^exec 3>&2 |^elif is_written "
+# Programs in whose place the scripts have another way.
+INSTEAD = ("perl",)
 NOTING = """#!/bin/sh
 echo {name} >>"$CALLED"
 exec {path} "$@"
@@ -53,7 +55,7 @@ CALLS = {
     "a damaged fax by mail": Call("faxpages-mail", ("damaged.tif", "a@b.c"), 3),
     "a picture by mail": Call("faxpages-mail", ("picture.tif", "a@b.c"), 3),
     "a fax that came": Call("faxpages-receive", ("came.tif", "sorted"), 3, "rm -rf sorted; cp good.tif came.tif"),
-    "a picture that came": Call("faxpages-receive", ("picture.tif", "sorted"), 3, "rm -rf sorted"),
+    "a picture that came": Call("faxpages-receive", ("came.tif", "sorted"), 3, "rm -rf sorted; cp picture.tif came.tif"),
     "HylaFAX": Call("faxpages-hylafax", ("etc",), 3, "rm -rf etc; mkdir -p etc/templates/en; touch etc/templates/en/a.txt"),
     "HylaFAX again": Call("faxpages-hylafax", ("etc",), 3),
     "HylaFAX, taken back": Call("faxpages-hylafax", ("--remove", "etc"), 3, "faxpages-hylafax etc"),
@@ -121,7 +123,7 @@ def without_each(room: Room, _: str) -> Iterator[Claim]:
     lay_out(room)
     noted = Noted(room)
     for name, call in CALLS.items():
-        status, said = noted.run(call)
+        whole = status, said = noted.run(call)
         called = noted.called()
         yield f"{name}: all is there: {said}", (status in (0, 1, 3), "not on the PATH" in said), (True, False)
         yield f"{name}: what it calls was noted: {called}", len(called) >= 5, True
@@ -129,6 +131,9 @@ def without_each(room: Room, _: str) -> Iterator[Claim]:
             os.remove(f"{noted.folder}/{program}")
             status, said = noted.run(call)
             noted.put(program)
+            if program in INSTEAD:
+                yield f"{name}, without {program}, in another way", (status, said), whole
+                continue
             yield f"{name}, without {program}", (status, names(said, program)), (status_of(call, program), True)
 
 

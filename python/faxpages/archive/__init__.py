@@ -1,7 +1,7 @@
 """Checks, or converts, all faxes of an archive, and keeps what it found in a table of SQLite:
 
     faxpages-archive check TREE --table TABLE.sqlite [--processes N | --dask | --scheduler ADDRESS]
-        [--timeout SECONDS] [--again unread | faulty | all] [--share I/N] [--follow] [--gone] [--names] [--faults-ok]
+        [--timeout SECONDS] [--again unread | faulty | all] [--share I/N] [--follow] [--renew] [--gone] [--names] [--faults-ok]
         [--lost]
     faxpages-archive convert TREE TARGET --to pbm | mh | mr | mmr --table TABLE.sqlite [..] [--again copies]
         [--order 1 | 2] [--k K] [--strip ROWS] [--align] [--fields] [--adopt] [--delete [--all-or-nothing] [--give-up WHAT]]

@@ -8,7 +8,8 @@ import sqlite3
 import sys
 import time
 import urllib.parse
-from typing import Any, List, Optional, Union
+import zlib
+from typing import Any, Iterable, List, Optional, Set, Union
 
 from . import _files as files
 from ._fax import FAULTY, OTHER, Found
@@ -19,7 +20,7 @@ _COMMIT = 1.0
 # How long a commit waits for a reader before the run goes on, and how long all else waits for a writer.
 _WAIT, _LONG = 0.25, 60.0
 # Of versions before 1.6, whose tables are read as they stand, and brought up to date where they are written.
-_BEFORE, _FORMAT = 2, 3
+_BEFORE, _BEFORE_DIGESTS, _FORMAT = 2, 3, 4
 _SCHEMA = """
 CREATE TABLE IF NOT EXISTS faxes (
     path PRIMARY KEY NOT NULL, size INTEGER, mtime REAL, status INTEGER NOT NULL, pages INTEGER, rows INTEGER,
@@ -38,13 +39,23 @@ CREATE TABLE IF NOT EXISTS runs (
     unread INTEGER NOT NULL);
 CREATE TABLE IF NOT EXISTS job (name TEXT PRIMARY KEY NOT NULL, value TEXT NOT NULL);
 """
-# What versions before 1.12 did not keep: the digests of faxes as they were read; and the only copies of faxes that have
-# gone, and what was found of each by which verification.
+# What versions before 1.12 did not keep: the digests of faxes as they were read; the only copies of faxes that have gone,
+# and what was found of each by which verification; and a sum of each row, by which it is known that it is damaged.
 _SINCE = """
 CREATE TABLE IF NOT EXISTS {0}originals (path PRIMARY KEY NOT NULL, size INTEGER, mtime REAL, digest BLOB NOT NULL);
 CREATE TABLE IF NOT EXISTS {0}only_copies (
-    path PRIMARY KEY NOT NULL, digest TEXT, fields_digest TEXT, fault TEXT, why TEXT, verified REAL, run INTEGER NOT NULL);
+    path PRIMARY KEY NOT NULL, digest TEXT, fields_digest TEXT, fault TEXT, why TEXT, verified REAL, run INTEGER NOT NULL,
+    sum INTEGER);
+CREATE TABLE IF NOT EXISTS {0}sums (path PRIMARY KEY NOT NULL, sum INTEGER NOT NULL);
 """
+# The sum of a row, with what is known of its fax and of its copy.
+_SUMMED = ", ".join(["path", *(f"faxes.{name}" for name in COLUMNS[1:]), "since", "checked", "run", "origin", *(
+    f"copies.{name}" for name in ("size", "mtime", "digest", "ours", "fields_size", "fields_mtime", "fields_digest",
+                                  "fields_ours")), "originals.size", "originals.mtime", "originals.digest"])
+_SUM = f"row_sum({_SUMMED})"
+_JOINED = ("faxes LEFT JOIN times USING (path) LEFT JOIN copies USING (path) LEFT JOIN originals USING (path)")
+# The sum of what is known of an only copy.
+ONLY_SUM = "row_sum(path, digest, fields_digest)"
 _TEMPORARY = """
 CREATE TEMP TABLE waiting (
     path BLOB NOT NULL, size INTEGER NOT NULL, mtime REAL NOT NULL, copy TEXT NOT NULL, fields TEXT NOT NULL,
@@ -61,11 +72,19 @@ _OLD_ROWS = ", ".join({
     "lost": "NULL AS lost"}.get(name, name) for name in COLUMNS)
 PUT_COPY = "INSERT OR REPLACE INTO copies VALUES (?, ?, ?, ?, ?, ?, ?, ?, ?)"
 
+# What SQLite says of a database with tables or texts that are none.
+_OF_DAMAGE = ("no such", "decode", "user-defined", "malformed")
+_BEGINNING = b"SQLite format 3\0"
+
 Path = Union[str, bytes]
 
 
 class TableError(Exception):
     """A table is of another job, in use, or none."""
+
+
+class Damaged(TableError):
+    """A table is damaged."""
 
 
 class WrongTable(TableError):
@@ -99,23 +118,67 @@ class Database:
             raise TableError(f"there is no table {name}")
         self._lock = self._locked() if new else None
         self._began: Optional[float] = None
-        self._verified = 0
+        # The rows whose sums are to be made anew.
+        self._touched: Set[Path] = set()
         # Nothing but a commit has to wait for readers.
-        self._base = sqlite3.connect(_address(name, new), timeout=_LONG, isolation_level=None, uri=True)
+        self._base = sqlite3.connect(address(name, new), timeout=_LONG, isolation_level=None, uri=True)
         try:
+            self._base.create_function("row_sum", -1, sum_of, deterministic=True)
             self._base.execute("PRAGMA cache_spill = 0")
+            self._look()
             if new:
                 self._make()
-                return
-            if not self._has_all():
-                self._base.executescript(_SINCE.format("temp."))
-            if self._format() == _BEFORE:
-                self._base.execute(f"CREATE TEMP VIEW faxes AS SELECT {_OLD_ROWS} FROM main.faxes")
-            elif self._format() != _FORMAT:
-                raise TableError(f"{name} is none of this version's tables; a run of check or convert makes it one")
+            else:
+                self._read_as_it_stands()
         except BaseException:
             self._close()
             raise
+
+    def _read_as_it_stands(self) -> None:
+        """Has a table of an earlier version be read."""
+        if self._format() not in (_BEFORE, _BEFORE_DIGESTS, _FORMAT):
+            raise TableError(f"{self.name} is none of this version's tables; a run of check or convert makes it one")
+        if self._format() != _FORMAT:
+            self._base.executescript(_SINCE.format("temp."))
+        if self._format() == _BEFORE:
+            self._base.execute(f"CREATE TEMP VIEW faxes AS SELECT {_OLD_ROWS} FROM main.faxes")
+
+    def _look(self) -> None:
+        """Looks whether the database is whole, and each of its rows as it was written. Damaged: it is not."""
+        try:
+            (said,) = self._base.execute("PRAGMA quick_check(1)").fetchone()
+            damage = [] if said == "ok" else [str(said).replace("\n", " ")]
+            if not damage and self._format() == _FORMAT:
+                damage = self._damaged_rows()
+        except sqlite3.DatabaseError as error:
+            # One that is locked, or cannot be read, need not be damaged.
+            refused = isinstance(error, sqlite3.OperationalError) and not any(it in str(error) for it in _OF_DAMAGE)
+            if refused or not _is_database(self.name):
+                raise
+            damage = [str(error)]
+        if damage:
+            raise Damaged(f"{self.name} is damaged: {damage[0]}")
+
+    def _damaged_rows(self) -> List[str]:
+        """What is said of rows that are not as they were written; nothing where all are."""
+        for query in (f"SELECT count(*), min(path) FROM {_JOINED} LEFT JOIN sums USING (path) WHERE sums.sum IS NOT {_SUM}",
+                      *(f"SELECT count(*), min(path) FROM {name} NOT INDEXED WHERE path NOT IN (SELECT path FROM faxes)"
+                        for name in ("times", "copies", "originals", "sums")),
+                      f"SELECT count(*), min(path) FROM only_copies WHERE sum IS NOT {ONLY_SUM}"):
+            count, path = self._base.execute(query).fetchone()
+            if count:
+                return [f"{count} of its rows are not as they were written, as that of {ascii(text_of(bytes_of(path)))[1:-1]}"]
+        return []
+
+    def touch(self, paths: Iterable[Path]) -> None:
+        """Notes that these rows change, so that their sums are made anew before they are committed."""
+        self._touched.update(paths)
+
+    def _make_sums(self) -> None:
+        """Makes the sums of the rows that have changed anew."""
+        query = f"INSERT OR REPLACE INTO sums SELECT path, {_SUM} FROM {_JOINED} WHERE path = ?"
+        self._base.executemany(query, ((path,) for path in self._touched))
+        self._touched.clear()
 
     def __exit__(self, kind: object, *_: object) -> None:
         if kind is None:
@@ -140,7 +203,7 @@ class Database:
     def _is_foreign(self) -> bool:
         """Whether there are tables already, and these are not those of an archive."""
         tables = {str(name) for (name,) in self._base.execute("SELECT name FROM sqlite_master")}
-        return self._format() not in (0, _BEFORE, _FORMAT) or bool(tables) and not {"faxes", "times", "job"} <= tables
+        return self._format() not in (0, _BEFORE, _BEFORE_DIGESTS, _FORMAT) or bool(tables) and not {"faxes", "times", "job"} <= tables
 
     def _make(self) -> None:
         """Makes the tables, and brings those of an earlier version up to date."""
@@ -148,16 +211,21 @@ class Database:
             raise TableError(f"{self.name} is a database of another program, or of a later version, and stays as it is")
         self._base.executescript(_TEMPORARY)
         if self._format() == _FORMAT:
-            if not self._has_all():
-                self.begin()
-                self._put_tables(_SINCE.format(""))
-                self.commit_all()
             return
         self.begin()
         self._put_tables(_SINCE.format(""))
         if self._format() == _BEFORE:
             self._renew()
-            return
+        elif self._format() == 0:
+            self._begin_anew()
+        for name in ("times", "copies"):
+            self._base.execute(f"DELETE FROM {name} WHERE path NOT IN (SELECT path FROM faxes)")
+        self._base.execute(f"INSERT OR REPLACE INTO sums SELECT path, {_SUM} FROM {_JOINED}")
+        self._base.execute(f"PRAGMA user_version = {_FORMAT}")
+        self.commit_all()
+
+    def _begin_anew(self) -> None:
+        """Makes a new table, or takes over the rows of version 1.4."""
         old = [row[1] for row in self._base.execute("PRAGMA table_info(faxes)")]
         if old:
             for name in ("faxes", "times"):
@@ -168,13 +236,6 @@ class Database:
         number = os.urandom(8).hex()
         self._base.execute("INSERT OR REPLACE INTO job VALUES ('table', ?)", (number,))
         self._base.execute("UPDATE times SET origin = ?", (number,))
-        self._base.execute(f"PRAGMA user_version = {_FORMAT}")
-        self.commit_all()
-
-    def _has_all(self) -> bool:
-        """Whether there are the tables that versions before 1.12 did not have."""
-        found = self._base.execute("SELECT 1 FROM main.sqlite_master WHERE name = 'only_copies'").fetchone()
-        return found is not None
 
     def _put_tables(self, statements: str) -> None:
         for statement in filter(str.strip, statements.split(";")):
@@ -186,8 +247,6 @@ class Database:
         self._base.execute(_SCHEMA.split(";")[0])
         self._base.execute(f"INSERT INTO faxes SELECT {_OLD_ROWS} FROM old_faxes")
         self._base.execute("DROP TABLE old_faxes")
-        self._base.execute(f"PRAGMA user_version = {_FORMAT}")
-        self.commit_all()
 
     def _upgrade(self, columns: List[str]) -> None:
         """Takes over the rows of version 1.4, whose paths were whole. What it wrote is known without a digest."""
@@ -224,6 +283,8 @@ class Database:
         if self._began is None or not self._base.in_transaction:
             self._began = None
             return True
+        if self._touched:
+            self._make_sums()
         try:
             self._base.execute(f"PRAGMA busy_timeout = {int(_WAIT * 1000)}")
             self._base.execute("COMMIT")
@@ -257,6 +318,20 @@ class Database:
         return None
 
 
-def _address(name: str, new: bool) -> str:
+def sum_of(*values: object) -> int:
+    """The sum of values."""
+    return zlib.crc32(repr(values).encode("utf-8", "surrogatepass"))
+
+
+def _is_database(name: str) -> bool:
+    """Whether a file begins as one of SQLite, so that it is one that is damaged."""
+    try:
+        with open(name, "rb") as file:
+            return file.read(len(_BEGINNING)) == _BEGINNING
+    except OSError:
+        return False
+
+
+def address(name: str, new: bool) -> str:
     """How SQLite is told a file, whatever its name. It makes none where there has to be one."""
     return f"file:{urllib.parse.quote(os.fsencode(os.path.abspath(name)))}?mode={'rwc' if new else 'rw'}"

@@ -17,7 +17,7 @@ import time
 from typing import BinaryIO, Callable, Dict, Iterator, NamedTuple, Optional, Tuple
 
 from ._incoming import why_incoming
-from ._marks import Mark, Owner, Place, is_only, mark_of, name_of, only_of, put_mark, put_only, take_only
+from ._marks import Mark, Owner, Place, digest_of_only, is_only, mark_of, name_of, only_of, put_mark, put_only, take_only
 
 _FOLDER = os.O_RDONLY | os.O_DIRECTORY | os.O_CLOEXEC
 # A name that is a link is refused, and one that is a pipe is not waited for.
@@ -511,6 +511,21 @@ def is_kept(target: Root, relative: bytes, copy: Seen) -> bool:
                     and target.is_there())
     except (NotOurs, OSError):
         return False
+
+
+def marks(path: bytes) -> Iterator[Tuple[bytes, str, bool, Optional[str]]]:
+    """The copies below TARGET that have a mark: their names, the numbers of their tables, whether they are the only ones,
+    and their digests, where the marks have them."""
+    for folder, _, names in os.walk(path):
+        for name in names:
+            relative = os.path.relpath(os.path.join(folder, name), path)
+            with contextlib.suppress(NotOurs, OSError):
+                with root_of(path).place(relative) as place, opened(place) as file:
+                    number, mark = (only_of(place, file), mark_of(file)) if file is not None else (None, None)
+                    if file is not None and number is not None:
+                        yield relative, number, True, digest_of_only(file)
+                    elif mark is not None and mark.name == name_of(relative):
+                        yield relative, mark.number, False, mark.digest
 
 
 def damage(target: Root, relative: bytes, digest: str) -> Tuple[str, Optional[str]]:

@@ -13,7 +13,7 @@ from typing import Callable, Dict, Iterable, List, Optional
 
 from . import _files as files
 from . import _walk as walk
-from ._database import COLUMNS, TableError, WrongTable, text_of
+from ._database import COLUMNS, Damaged, TableError, WrongTable, text_of
 from ._fax import GOOD, NOT_READ, Found, Job, NoEngine, NoWorker
 from ._marks import Owner
 from ._run import Run, Stopped, say, shown, signals, state_of, told
@@ -39,12 +39,28 @@ def _do_tree(words: argparse.Namespace) -> int:
         if job.fields and not shutil.which("tiffdump"):
             raise TableError("tiffdump is not installed: Debian has it in libtiff-tools")
     words.table = os.path.abspath(words.table)
-    with Table(words.table) as table:
+    with _opened(words, job) as table:
         table.set_job(job_of(job, words.share), table.where() or where_of(job))
         if job.target is not None:
             files.make_target(job.target)
             walk.refuse_one_in_the_other(tree, job.target)
         return Run(words, job._replace(owner=table.owner() if job.target is not None else Owner(table.number())), table).do()
+
+
+def _opened(words: argparse.Namespace, job: Job) -> Table:
+    """The table; one that is damaged is made anew, where the words ask for that."""
+    try:
+        return Table(words.table)
+    except Damaged as error:
+        if not words.renew:
+            raise TableError(f"{error}; --renew makes it anew, and keeps this one") from None
+        from . import _renewing as renewing  # nothing else needs it
+
+        aside = renewing.keep_aside(words.table)
+        say(f"{shown(str(error))}; it is kept as {shown(aside)}, and its faxes are done again")
+        table = Table(words.table)
+        renewing.take_over(table, aside, job)
+        return table
 
 
 def _do_table(words: argparse.Namespace) -> int:

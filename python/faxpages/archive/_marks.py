@@ -80,13 +80,19 @@ def put_mark(file: int, mark: Mark) -> None:
 
 def only_of(place: Place, file: int) -> Optional[str]:
     """The number of the table that has said that a copy is the only one; none where none has."""
-    said = _text_of(file, _ONLY)
+    said = _text_of(file, _ONLY).split()
     if said:
-        return said
+        return said[0]
     try:
         return "?" if stat.S_ISREG(os.stat(_beside(place), dir_fd=place.folder, follow_symlinks=False).st_mode) else None
     except OSError:
         return None
+
+
+def digest_of_only(file: int) -> Optional[str]:
+    """The digest that the mark of an only copy has."""
+    said = _text_of(file, _ONLY).split()
+    return said[1] if len(said) > 1 else None
 
 
 def is_only(place: Place, file: int) -> bool:
@@ -97,7 +103,10 @@ def is_only(place: Place, file: int) -> bool:
 def put_only(place: Place, file: int, owner: Owner) -> None:
     """Notes that a copy is the only one. OSError says that this cannot be noted."""
     try:
-        _writable(file, lambda: os.setxattr(file, _ONLY, owner.noted().encode()))
+        # With the digest a table that is damaged can be made anew.
+        mark = mark_of(file)
+        said = owner.noted() + (f" {mark.digest}" if mark is not None else "")
+        _writable(file, lambda: os.setxattr(file, _ONLY, said.encode()))
         _writable(file, lambda: _remove(file, _MARK))
     except OSError as error:
         if error.errno not in (errno.ENOTSUP, errno.EOPNOTSUPP, errno.ENOSYS):

@@ -5,10 +5,10 @@ from __future__ import annotations
 
 import json
 import time
-from typing import Dict, Iterator, List, Optional, Tuple
+from typing import Any, Dict, Iterator, List, Optional, Tuple
 
 from . import _files as files
-from ._database import Database, bytes_of, kept_path
+from ._database import ONLY_SUM, Database, bytes_of, kept_path
 from ._fax import FAULTY, Found
 
 
@@ -21,8 +21,16 @@ class OnlyCopies(Database):
         """Notes that our copies of these faxes are the only ones, with their digests."""
         self.begin()
         self._base.executemany(
-            "INSERT OR REPLACE INTO only_copies SELECT path, digest, fields_digest, NULL, NULL, NULL, 0 FROM copies "
+            "INSERT OR REPLACE INTO only_copies SELECT path, digest, fields_digest, NULL, NULL, NULL, 0, "
+            f"{ONLY_SUM} FROM copies "
             "WHERE path = ? AND ours", ((kept_path(path),) for path in paths))
+
+    def put_only(self, rows: List[Tuple[Any, ...]]) -> None:
+        """Notes only copies, with their digests and those of their fields, but for what is known of."""
+        self.begin()
+        self._base.executemany(
+            "INSERT OR IGNORE INTO only_copies SELECT ?1, ?2, ?3, NULL, NULL, NULL, 0, row_sum(?1, ?2, ?3)",
+            ((kept_path(bytes_of(path)), *rest) for path, *rest in rows))
 
     def drop_only(self, paths: List[bytes]) -> None:
         """Notes that the copies of these faxes are the only ones no more."""
@@ -35,8 +43,8 @@ class OnlyCopies(Database):
         if self._value("only copies") is None:
             # Versions before 1.12 kept the digests with what they deleted.
             self._base.execute(
-                "INSERT OR IGNORE INTO only_copies SELECT path, digest, NULL, NULL, NULL, NULL, 0 FROM "
-                "(SELECT path, digest, max(rowid) FROM deleted WHERE deleted > 0 GROUP BY path) "
+                "INSERT OR IGNORE INTO only_copies SELECT path, digest, NULL, NULL, NULL, NULL, 0, row_sum(path, digest, NULL) "
+                "FROM (SELECT path, digest, max(rowid) FROM deleted WHERE deleted > 0 GROUP BY path) "
                 "WHERE path NOT IN (SELECT path FROM copies WHERE ours)")
             self._base.execute("INSERT INTO job VALUES ('only copies', 'noted')")
         if told is None or told[2] is not None:

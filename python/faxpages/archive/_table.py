@@ -6,7 +6,7 @@ import heapq
 import json
 import os
 import time
-from typing import Any, Callable, Dict, Iterator, List, NamedTuple, Optional, Tuple
+from typing import Any, Callable, Dict, Iterator, List, NamedTuple, Optional, Set, Tuple
 
 from ._database import COLUMNS, PUT_COPY, Path, WrongTable, bytes_of, kept_path, text_of
 from ._fax import FAULTY, GOOD, NOT_READ, OTHER, Done, Found, Job, Waiting
@@ -118,6 +118,11 @@ class Table(OnlyCopies):
             self.begin()
             self._base.execute("INSERT OR REPLACE INTO job VALUES ('parts', ?)", (json.dumps(parts),))
         return Owner(self.number(), frozenset(parts))
+
+    def take_parts(self, numbers: Set[str]) -> None:
+        """Notes that the copies of the tables with these numbers are ours."""
+        self.begin()
+        self._base.execute("INSERT OR REPLACE INTO job VALUES ('parts', ?)", (json.dumps(sorted(numbers)),))
 
     def job(self) -> Optional[Dict[str, Any]]:
         """Which job the table is of, or None where it is new."""
@@ -237,6 +242,7 @@ class Table(OnlyCopies):
         self.begin()
         self._base.executemany(_PUT_TIME, (
             (kept_path(row.path), *look, row.status, row.fault, row.fault_page, row.fault_row) for row, look in rows))
+        self.touch(kept_path(row.path) for row, _ in rows)
         self._base.executemany(_PUT, ((kept_path(row.path), *row[1:]) for row, _ in rows))
 
     def unseen(self, seen: bytearray) -> Iterator[bytes]:
@@ -249,13 +255,14 @@ class Table(OnlyCopies):
         """Takes out the rows of these faxes, and what is known of their copies."""
         self.begin()
         kept = [(kept_path(path),) for path in paths]
-        for name in ("faxes", "times", "copies", "originals"):
+        for name in ("faxes", "times", "copies", "originals", "sums"):
             self._base.executemany(f"DELETE FROM {name} WHERE path = ?", kept)
 
     def forget_copies(self, paths: List[bytes]) -> None:
         """Takes out what is known of the copies of these faxes."""
         self.begin()
         self._base.executemany("DELETE FROM copies WHERE path = ?", ((kept_path(path),) for path in paths))
+        self.touch(map(kept_path, paths))
 
     def not_marked(self) -> List[bytes]:
         """The faxes that have gone, and whose copies could not be marked as the only ones."""
@@ -307,6 +314,7 @@ class Table(OnlyCopies):
         self.begin()
         self._base.executemany("UPDATE faxes SET why = ? WHERE path = ?",
                                ((why, kept_path(path)) for path, why in whys.items()))
+        self.touch(map(kept_path, whys))
         self.commit_all()
 
     def stays(self) -> Dict[str, int]:
@@ -370,6 +378,8 @@ class Table(OnlyCopies):
         """Notes that all good faxes of the table are due, with what is known of their copies, and that none is known to
         stay."""
         self.begin()
+        self.touch(path for (path,) in self._base.execute(
+            "SELECT path FROM faxes WHERE status = ? AND why IS NOT NULL", (GOOD,)))
         self._base.execute("UPDATE faxes SET why = NULL WHERE status = ? AND why IS NOT NULL", (GOOD,))
         self._base.execute("DELETE FROM waiting")
         self._base.execute(
@@ -464,7 +474,7 @@ class Table(OnlyCopies):
         """Takes over the only copies that a part knows, and what it found of them, but for what has a copy here."""
         self.begin()
         self._base.executemany(
-            "INSERT OR IGNORE INTO only_copies SELECT ?1, ?2, ?3, ?4, ?5, ?6, 0 "
+            "INSERT OR IGNORE INTO only_copies SELECT ?1, ?2, ?3, ?4, ?5, ?6, 0, row_sum(?1, ?2, ?3) "
             "WHERE ?1 NOT IN (SELECT path FROM copies WHERE ours)",
             part._base.execute("SELECT path, digest, fields_digest, fault, why, verified FROM only_copies"))
         if part._value("only copies") is None:

@@ -46,6 +46,7 @@ def _tree_words(command: argparse.ArgumentParser, again: List[str]) -> None:
                                                         "ones, those whose copy is to be read again, or all")
     command.add_argument("--share", type=walk.share_of, metavar="I/N", help="do one of N shares, I from 0")
     command.add_argument("--follow", action="store_true", help="go through symbolic links")
+    command.add_argument("--renew", action="store_true", help="make a table that is damaged anew, and keep the old one")
     command.add_argument("--gone", action="store_true", help="go on also where more than a tenth of the faxes is gone")
     command.add_argument("--names", action="store_true", help="say of each bad fax what is wrong with it")
     command.add_argument("--faults-ok", action="store_true", help="end with status 0 also where faxes have faults")

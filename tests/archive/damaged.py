@@ -1,0 +1,155 @@
+"""Tables that are damaged: no row of one is believed, whatever bytes have turned, and what can be made anew is."""
+
+from __future__ import annotations
+
+import contextlib
+import os
+import random
+import shutil
+import sqlite3
+
+import faxpages
+from tests.archive.converting import files_below
+from tests.archive.drawn import playing
+from tests.archive.keeping import TIME, drawn, put
+from tests.archive.only import two, words_of
+from tests.archive.room import Part, Room, Rows
+from tests.archive.verifying import turn, verify
+
+NAMES = [f"{number}.tif" for number in range(40)]
+# How many tables are damaged.
+DRAWS = 120
+SAID = "t.sqlite is damaged: "
+
+
+def made(place: str, *words: str) -> None:
+    """Faxes, of which some have been deleted after they were copied, and a table of those that are there."""
+    shutil.rmtree(place, ignore_errors=True)
+    for name in NAMES[:6]:
+        put(f"{place}/tree/{name}", drawn()[""], mtime=TIME)
+    playing.run(words_of(place, "--delete", *words), place, playing.Trouble())
+    for name in NAMES[6:]:
+        put(f"{place}/tree/{name}", drawn()[""], mtime=TIME)
+    playing.run(words_of(place, *words), place, playing.Trouble())
+
+
+def all_of(table: str) -> dict[str, list[tuple[object, ...]]]:
+    """All that a table says of faxes and of copies."""
+    with contextlib.closing(sqlite3.connect(table)) as base:
+        return {name: sorted(base.execute(f"SELECT * FROM {name}"), key=repr) for name in (
+            "faxes", "times", "copies", "originals")}  # fmt: skip
+
+
+def both(place: str) -> list[dict[bytes, bytes]]:
+    """The faxes and the copies."""
+    return [files_below(f"{place}/{name}") for name in ("tree", "copies")]
+
+
+def believed(room: Room, *_given: object) -> None:
+    """Bytes of a table are turned, many times: where a command believes it all rows are as they were, and else it says so,
+    with status 3, and nothing is changed."""
+    place = room("damaged-drawn")
+    made(place)
+    table, rng = f"{place}/t.sqlite", random.Random("damaged")
+    with open(table, "rb") as file:
+        whole = file.read()
+    rows, files, counts = all_of(table), both(place), {True: 0, False: 0}
+    for draw in range(DRAWS):
+        data = bytearray(whole)
+        for _ in range(rng.choice([1, 1, 4, 30])):
+            data[rng.randrange(100, len(data))] ^= 1 << rng.randrange(8)
+        with open(table, "wb") as file:
+            file.write(data)
+        for words in (["table", table, "--csv"], words_of(place)):
+            ran = playing.run(words, place, playing.Trouble())
+            said = ran.status == 3 and ran.error.count("\n") == 1 and ("is damaged: " in ran.error or "another program" in ran.error)
+            counts[said] += 1
+            if not said:
+                now = all_of(table)
+                other = [(now[name], rows[name]) for name in rows if now[name] != rows[name]] if now != rows else ""
+                room.claim(f"draw {draw}, {words[0]}: {ran.error} {str(other)[:3000]}", (ran.status, now == rows), (0, True))
+            elif words[0] == "convert":
+                room.claim(f"draw {draw}: nothing is changed", both(place) == files)
+    room.claim(f"damage that is said, and that which is none: {counts}", counts[True] > DRAWS // 2)
+
+
+def one_value(room: Room, *_given: object) -> None:
+    """Each value of a row, changed by itself, is found."""
+    place = room("damaged-value")
+    made(place)
+    with contextlib.closing(sqlite3.connect(f"{place}/t.sqlite")) as base:
+        columns = [(name, row[1]) for name in ("faxes", "times", "copies", "originals", "only_copies")
+                   for row in base.execute(f"PRAGMA table_info({name})")]  # fmt: skip
+    free = {("only_copies", it) for it in ("fault", "why", "verified", "run", "sum")}
+    for table, column in columns:
+        shutil.copy(f"{place}/t.sqlite", f"{place}/copy.sqlite")
+        with contextlib.closing(sqlite3.connect(f"{place}/copy.sqlite")) as base:
+            base.execute(f"UPDATE {table} SET {column} = CAST('other' AS BLOB) WHERE rowid = (SELECT max(rowid) FROM {table})")
+            base.commit()
+        status, _, error = room.run("table", f"{place}/copy.sqlite", "--csv") if (table, column) not in free else (3, b"", "damaged")
+        room.claim(f"{table}.{column}: {error}", (status, "damaged" in error), (3, True))
+
+
+def renewed(room: Room, *_given: object) -> None:
+    """--renew keeps the damaged table, and makes one with the same rows; the copies are known by their marks, and so are
+    the only ones, with their digests. Without it nothing is done."""
+    _, other = two()
+    for way in ("a row", "many rows", "the last pages", "what says which are the only copies"):
+        place = room(f"renewed {len(way)}")
+        made(place)
+        before = rows_of(room, place)
+        hurt(f"{place}/t.sqlite", way)
+        with open(f"{place}/t.sqlite", "rb") as file:
+            damaged = file.read()
+        ran = playing.run(words_of(place), place, playing.Trouble())
+        room.claim(f"{way}: {ran.error}", (ran.status, SAID in ran.error, "--renew makes it anew" in ran.error,
+                   os.path.exists(f"{place}/t.sqlite-damaged")), (3, True, True, False))  # fmt: skip
+        put(f"{place}/t.sqlite-damaged", b"of somebody else")
+        copies = files_below(f"{place}/copies")
+        ran = playing.run(words_of(place, "--renew"), place, playing.Trouble())
+        with open(f"{place}/t.sqlite-damaged-2", "rb") as file:
+            kept = file.read() == damaged
+        room.claim(f"{way}: renewed: {ran.error}{ran.out}", (ran.status, kept, rows_of(room, place) == before, files_below(
+            f"{place}/copies") == copies), (0, True, True, True))  # fmt: skip
+        put(f"{place}/tree/9.tif", other)
+        put(f"{place}/tree/3.tif", other)
+        ran = playing.run(words_of(place, "--names"), place, playing.Trouble())
+        with open(f"{place}/copies/9.tif", "rb") as file:
+            room.claim(f"{way}: the copies are ours, and the only ones stay: {ran.error}", (
+                ran.status, "3.tif: not read: Exists: the only copy of a fax that is gone\n" in ran.error,
+                ran.error.count("\n"), file.read()), (3, True, 1, faxpages.convert(other, "mmr")))  # fmt: skip
+        turn(f"{place}/copies/4.tif")
+        ran = verify(place, "--names")
+        room.claim(f"{way}: the only copies: {ran.error}", (ran.status, ran.out.partition(":")[0], "4.tif: the only copy: Changed" in
+                   ran.error), (1, "only copies 6", True))  # fmt: skip
+
+
+def rows_of(room: Room, place: str) -> Rows:
+    """The rows of a table."""
+    return room.rows(f"{place}/t.sqlite")
+
+
+def hurt(table: str, way: str) -> None:
+    """Damages a table."""
+    if way == "the last pages":
+        with open(table, "r+b") as file:
+            file.seek(os.path.getsize(table) * 3 // 4 // 4096 * 4096)
+            file.write(b"\xff" * (os.path.getsize(table) - file.tell()))
+        return
+    if way == "many rows":
+        with contextlib.closing(sqlite3.connect(table)) as base:
+            base.execute("UPDATE faxes SET status = 1")
+            base.execute("DELETE FROM times WHERE path > '2'")
+            base.commit()
+        return
+    statement = "UPDATE faxes SET rows = rows + 1 WHERE path = '20.tif'"
+    if way == "what says which are the only copies":
+        statement = "UPDATE only_copies SET digest = '0' || substr(digest, 2)"
+    with contextlib.closing(sqlite3.connect(table)) as base:
+        base.execute(statement)
+        if way == "what says which are the only copies":
+            base.execute("DELETE FROM deleted")
+        base.commit()
+
+
+PARTS: list[Part] = [believed, one_value, renewed]
