@@ -1,4 +1,4 @@
--- SparseBytes of an output that are written one after another.
+-- Parts of an output that are written one after another.
 use Rattle.std.proofs.Common.{◌≡◌, ℕ, ◌+◌, ◌≤◌, List, ◌++◌, length, take, drop, replicate, ◌∙◌, arith, append_assoc}
 use Rattle.std.proofs.Common.{length-append, length-take}
 use Rattle.std.proofs.lemmas.Grind.{common_steps}

@@ -13,7 +13,7 @@ use fax_page::{Memory, StripForm, StripWriter};
 use fax_rows::Row;
 use std::alloc::Global;
 
-/// Decodes the pels of row `i` of a table, whose runs stand apart, and returns whether there is
+/// Takes the pels of row `i` of a table, whose runs stand apart, and returns whether there is
 /// such a row of this width.
 fn take_row(row: &mut Row, rows: &[FaxRow], runs: &[u32], i: usize) -> bool
     ensures taken { result ≡ true → Spec.IsRowAt (length row.old) rows.now runs.now i row.new }

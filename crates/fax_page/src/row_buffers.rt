@@ -86,7 +86,7 @@ impl RowBuffers {
         self.first.whiten();
     }
 
-    /// Decodes the pels of a row of the same width as the reference.
+    /// Takes the pels of a row of the same width as the reference.
     pub fn set_reference(&mut self, row: &Row)
         requires { length row.now ≡ length self.old }
         ensures { self.new ≡ row.now }

@@ -128,7 +128,7 @@ pub(crate) fn invert(changes: &mut [u32], end: usize, width: u32) -> usize
     end + 1
 }
 
-/// Decodes the places of another row of the same width.
+/// Takes the places of another row of the same width.
 pub(crate) fn copy_changes(changes: &mut [u32], other: &[u32], end: usize, width: u32)
     requires row { Spec.AreChanges other.now end width }
     requires room { length changes.old ≡ width + 4 }

@@ -42,7 +42,7 @@ impl Row {
         Ok(row)
     }
 
-    /// Decodes the pels that these bytes hold: pel `i` is black where bit `i` is 1, the highest bit
+    /// Takes the pels that these bytes hold: pel `i` is black where bit `i` is 1, the highest bit
     /// of each byte first. The bits after the last pel are ignored. It takes no memory.
     pub fn set_packed(&mut self, bytes: &[u8])
         requires { length bytes.now ≡ Spec.packed_len (length self.old) }

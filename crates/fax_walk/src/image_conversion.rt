@@ -71,7 +71,7 @@ impl ImageConversion {
         })
     }
 
-    /// Decodes the images that stand whole at the start of the bytes, and returns how many bytes
+    /// Takes the images that stand whole at the start of the bytes, and returns how many bytes
     /// they have: what is left is nothing, or begins with no whole image. All bytes that are given
     /// are fewer than 2^64.
     ///
@@ -95,7 +95,7 @@ impl ImageConversion {
         Ok(taken)
     }
 
-    /// Decodes the images that stand whole at the start of the bytes, and returns how many bytes
+    /// Takes the images that stand whole at the start of the bytes, and returns how many bytes
     /// they have, and the fault of the image after them, if bytes are left.
     fn take_whole(&mut self, bytes: &[u8]) -> Result<(usize, Option<PbmFault>), Memory>
         requires { (before : List ℕ)

@@ -82,7 +82,7 @@ pub(crate) fn row_for_exchange(alloc: Global, form: &PageForm) -> Result<Option<
     }
 }
 
-/// Decodes the pels of another row of the same width, with their colours exchanged.
+/// Takes the pels of another row of the same width, with their colours exchanged.
 #[inline(never)]
 pub(crate) fn set_exchanged(row: &mut Row, from: &Row)
     requires { length from.now ≡ length row.old }

@@ -11,7 +11,7 @@ use fax_page::{Memory, StripForm, StripWriter};
 use fax_rows::Row;
 use kit_std::alloc::Global;
 
-/// Decodes the pels of row `i` of a table, whose runs stand apart, and returns whether there is
+/// Takes the pels of row `i` of a table, whose runs stand apart, and returns whether there is
 /// such a row of this width.
 // ensures taken { result ≡ true → Spec.IsRowAt (length row.old) rows.now runs.now i row.new }
 // ensures none { result ≡ false → (pels : List Colour)

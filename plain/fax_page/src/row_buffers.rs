@@ -64,7 +64,7 @@ impl RowBuffers {
         self.first.whiten();
     }
 
-    /// Decodes the pels of a row of the same width as the reference.
+    /// Takes the pels of a row of the same width as the reference.
     // requires { length row.now ≡ length self.old }
     // ensures { self.new ≡ row.now }
     pub fn set_reference(&mut self, row: &Row) {

@@ -118,7 +118,7 @@ pub(crate) fn invert(changes: &mut [u32], end: usize, _width: u32) -> usize {
     end + 1
 }
 
-/// Decodes the places of another row of the same width.
+/// Takes the places of another row of the same width.
 // requires row { Spec.AreChanges other.now end width }
 // requires room { length changes.old ≡ width + 4 }
 // ensures elements { Spec.AreChanges changes.new end width }

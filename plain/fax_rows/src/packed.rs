@@ -33,7 +33,7 @@ impl Row {
         Ok(row)
     }
 
-    /// Decodes the pels that these bytes hold: pel `i` is black where bit `i` is 1, the highest bit
+    /// Takes the pels that these bytes hold: pel `i` is black where bit `i` is 1, the highest bit
     /// of each byte first. The bits after the last pel are ignored. It takes no memory.
     // requires { length bytes.now ≡ Spec.packed_len (length self.old) }
     // ensures pels { self.new ≡ Spec.unpacked_row (length self.old) bytes.now }

@@ -97,7 +97,7 @@ impl Row {
         self.end = invert(changes, self.end, self.width);
     }
 
-    /// Decodes the pels of a row of the same width. Mostly that row is white.
+    /// Takes the pels of a row of the same width. Mostly that row is white.
     // requires { length self.old ≡ length row.now }
     // ensures { self.new ≡ row.now }
     pub fn set_from(&mut self, row: &Row) {
@@ -119,7 +119,7 @@ impl Row {
         are_longest(runs, width)
     }
 
-    /// Decodes the pels of the row of this width that has these longest runs, white first, and
+    /// Takes the pels of the row of this width that has these longest runs, white first, and
     /// returns whether there is one. Where there is none, the row stays as it is. It takes no
     /// memory.
     // ensures set { IsTrue result → runs_of self.new ≡ runs.now }

@@ -41,7 +41,7 @@ pub(crate) fn row_for_exchange(alloc: Global, form: &PageForm) -> Result<Option<
     }
 }
 
-/// Decodes the pels of another row of the same width, with their colours exchanged.
+/// Takes the pels of another row of the same width, with their colours exchanged.
 #[inline(never)]
 // requires { length from.now ≡ length row.old }
 // ensures { row.new ≡ map other from.now }

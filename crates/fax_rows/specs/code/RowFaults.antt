@@ -1,4 +1,4 @@
--- SparseBytes of the faults of rows.
+-- Parts of the faults of rows.
 -- A definition without a citation is this project's profile.
 use Rattle.std.specs.Prelude.{ℕ, ◌+◌, ◌≤◌, ◌⊎◌, Bool, List, length}
 use Rattle.fax_bits.specs.declared.Colour.{Colour}

@@ -1,4 +1,4 @@
--- NumberCache of numbers that are remembered.
+-- Texts of numbers that are remembered.
 use Rattle.std.specs.Prelude.{◌≡◌, ℕ, ◌+◌, ◌*◌, ◌<◌, ◌≤◌, List, ◌++◌, length, take, Some}
 use Rattle.std.specs.Prelude.{slice_get, slice_index}
 use Rattle.fax_tool.specs.Text.{and_number}

@@ -50,7 +50,7 @@ impl InputBuffer {
         self.len -= count;
     }
 
-    /// Decodes bytes until the room is full or none is left, and returns whether it saw that none
+    /// Takes bytes until the room is full or none is left, and returns whether it saw that none
     /// is. Room that is full already is made twice as much before, but never of more bytes than
     /// show that there are too many.
     ///

@@ -14,7 +14,7 @@ pub struct OutputBuffer {
     pub(crate) bytes: Vec<u8>,
     /// Where the text ends.
     pub(crate) end: usize,
-    /// NumberCache of numbers that were made.
+    /// Texts of numbers that were made.
     pub(crate) texts: NumberCache,
 }
 

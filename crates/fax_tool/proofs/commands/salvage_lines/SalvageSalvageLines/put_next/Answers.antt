@@ -1,5 +1,5 @@
 use Rattle.fax_tool.proofs.SalvageLineLemmas.{item_put, none_left}
-use Rattle.fax_tool.proofs.commands.salvage_lines.SalvageRemains.put_next.Goals as goal
+use Rattle.fax_tool.proofs.commands.salvage_lines.SalvageSalvageLines.put_next.Goals as goal
 
 pub returns-in_default-clause-put : goal.returns-in_default-clause-put
 returns-in_default-clause-put c =
