@@ -46,8 +46,8 @@ def both(place: str) -> list[dict[bytes, bytes]]:
 
 
 def believed(room: Room, *_given: object) -> None:
-    """Bytes of a table are turned, many times: where a command believes it all rows are as they were, and else it says so,
-    with status 3, and nothing is changed."""
+    """Bytes of a table are turned, many times: where a command believes it all rows are as they were, and else it
+    says so, with status 3, and nothing is changed."""
     place = room("damaged-drawn")
     made(place)
     table, rng = f"{place}/t.sqlite", random.Random("damaged")
@@ -62,12 +62,14 @@ def believed(room: Room, *_given: object) -> None:
             file.write(data)
         for words in (["table", table, "--csv"], words_of(place)):
             ran = playing.run(words, place, playing.Trouble())
-            said = ran.status == 3 and ran.error.count("\n") == 1 and ("is damaged: " in ran.error or "another program" in ran.error)
+            named = "is damaged: " in ran.error or "another program" in ran.error
+            said = ran.status == 3 and ran.error.count("\n") == 1 and named
             counts[said] += 1
             if not said:
                 now = all_of(table)
                 other = [(now[name], rows[name]) for name in rows if now[name] != rows[name]] if now != rows else ""
-                room.claim(f"draw {draw}, {words[0]}: {ran.error} {str(other)[:3000]}", (ran.status, now == rows), (0, True))
+                said_of = f"draw {draw}, {words[0]}: {ran.error} {str(other)[:3000]}"
+                room.claim(said_of, (ran.status, now == rows), (0, True))
             elif words[0] == "convert":
                 room.claim(f"draw {draw}: nothing is changed", both(place) == files)
     room.claim(f"damage that is said, and that which is none: {counts}", counts[True] > DRAWS // 2)
@@ -84,15 +86,18 @@ def one_value(room: Room, *_given: object) -> None:
     for table, column in columns:
         shutil.copy(f"{place}/t.sqlite", f"{place}/copy.sqlite")
         with contextlib.closing(sqlite3.connect(f"{place}/copy.sqlite")) as base:
-            base.execute(f"UPDATE {table} SET {column} = CAST('other' AS BLOB) WHERE rowid = (SELECT max(rowid) FROM {table})")
+            base.execute(f"UPDATE {table} SET {column} = CAST('other' AS BLOB) "
+                         f"WHERE rowid = (SELECT max(rowid) FROM {table})")
             base.commit()
-        status, _, error = room.run("table", f"{place}/copy.sqlite", "--csv") if (table, column) not in free else (3, b"", "damaged")
+        if (table, column) in free:
+            continue
+        status, _, error = room.run("table", f"{place}/copy.sqlite", "--csv")
         room.claim(f"{table}.{column}: {error}", (status, "damaged" in error), (3, True))
 
 
 def renewed(room: Room, *_given: object) -> None:
-    """--renew keeps the damaged table, and makes one with the same rows; the copies are known by their marks, and so are
-    the only ones, with their digests. Without it nothing is done."""
+    """--renew keeps the damaged table, and makes one with the same rows; the copies are known by their marks, and so
+    are the only ones, with their digests. Without it nothing is done."""
     _, other = two()
     for way in ("a row", "many rows", "the last pages", "what says which are the only copies"):
         place = room(f"renewed {len(way)}")
@@ -109,8 +114,8 @@ def renewed(room: Room, *_given: object) -> None:
         ran = playing.run(words_of(place, "--renew"), place, playing.Trouble())
         with open(f"{place}/t.sqlite-damaged-2", "rb") as file:
             kept = file.read() == damaged
-        room.claim(f"{way}: renewed: {ran.error}{ran.out}", (ran.status, kept, rows_of(room, place) == before, files_below(
-            f"{place}/copies") == copies), (0, True, True, True))  # fmt: skip
+        same = rows_of(room, place) == before, files_below(f"{place}/copies") == copies
+        room.claim(f"{way}: renewed: {ran.error}{ran.out}", (ran.status, kept, *same), (0, True, True, True))
         put(f"{place}/tree/9.tif", other)
         put(f"{place}/tree/3.tif", other)
         ran = playing.run(words_of(place, "--names"), place, playing.Trouble())
@@ -120,8 +125,8 @@ def renewed(room: Room, *_given: object) -> None:
                 ran.error.count("\n"), file.read()), (3, True, 1, faxpages.convert(other, "mmr")))  # fmt: skip
         turn(f"{place}/copies/4.tif")
         ran = verify(place, "--names")
-        room.claim(f"{way}: the only copies: {ran.error}", (ran.status, ran.out.partition(":")[0], "4.tif: the only copy: Changed" in
-                   ran.error), (1, "only copies 6", True))  # fmt: skip
+        room.claim(f"{way}: the only copies: {ran.error}", (ran.status, ran.out.partition(":")[0],
+                   "4.tif: the only copy: Changed" in ran.error), (1, "only copies 6", True))  # fmt: skip
 
 
 def rows_of(room: Room, place: str) -> Rows:

@@ -71,8 +71,8 @@ def touched(path: str, when: int) -> Iterator[None]:
 
 
 def incoming(room: Room, *_given: object) -> None:
-    """A fax that is young, open to write or locked stays, and is told, also by the table; the others go. Once it is whole
-    it goes too, with all its pages."""
+    """A fax that is young, open to write or locked stays, and is told, also by the table; the others go. Once it is
+    whole it goes too, with all its pages."""
     one, other = two()
     place = room("incoming")
     fax = f"{place}/tree/b.tif"
@@ -85,7 +85,7 @@ def incoming(room: Room, *_given: object) -> None:
             with holder, mock.patch.object(fcntl, "fcntl", fcntl.fcntl if leases else no_lease):
                 ran = playing.run(words_of(place, "--delete"), place, playing.Trouble())
                 rows = {os.path.basename(path): row["why"] for path, row in room.rows(f"{place}/t.sqlite").items()}
-                told = why.partition(": ")[0] + ": b.tif: " + why.partition(": ")[2] in ran.error if why else not ran.error
+                told = why.replace(": ", ": b.tif: ") in ran.error if why else not ran.error
                 room.claim(f"a fax that is {way}, leases {leases}: {ran.error}", (
                     ran.status, os.path.exists(fax), rows, told, "deleted 1 faxes; 1 kept, as said above" in ran.out,
                     os.path.exists(f"{place}/tree/a.tif")), (3, True, {b"b.tif": why}, True, True, False) if why else (
@@ -107,8 +107,9 @@ def whole(room: Room, *_given: object) -> None:
         put(f"{place}/tree/{name}.tif", one)
     with held(f"{place}/tree/b.tif", "open"):
         ran = playing.run(words_of(place, "--delete", "--all-or-nothing"), place, playing.Trouble())
-    room.claim(f"all or nothing: {ran.error}", (ran.status, sorted(os.listdir(f"{place}/tree")), "InUse: b.tif" in ran.error,
-               "nothing is deleted" in ran.error), (3, ["a.tif", "b.tif"], True, True))  # fmt: skip
+    said = "InUse: b.tif" in ran.error, "nothing is deleted" in ran.error
+    room.claim(f"all or nothing: {ran.error}", (ran.status, sorted(os.listdir(f"{place}/tree")), *said),
+               (3, ["a.tif", "b.tif"], True, True))
     ran = playing.run(words_of(place, "--delete", "--all-or-nothing"), place, playing.Trouble())
     room.claim("all", (ran.status, os.listdir(f"{place}/tree")), (0, []))
 
@@ -185,8 +186,8 @@ def changes_while_read(room: Room, *_given: object) -> None:
 
 
 def some_are_bad(room: Room, *_given: object) -> None:
-    """Where one fax is faulty, another has no copy and one is no fax that is read here, the others go, and the status is
-    that of the run; by --all-or-nothing none goes."""
+    """Where one fax is faulty, another has no copy and one is no fax that is read here, the others go, and the status
+    is that of the run; by --all-or-nothing none goes."""
     one, _ = two()
     bad = {"faulty": (b"", 1), "of another kind": (b"no fax at all", 1), "without a copy": (one, 3)}
     for name, (data, status) in bad.items():

@@ -138,7 +138,7 @@ def mirrored(room: Room, *_given: object) -> None:
     with open(copy, "rb") as file:
         room.claim("the copy is of the last one", file.read(), faxpages.convert(two, "mmr"))
     with contextlib.closing(sqlite3.connect(room("mirrored/t.sqlite"))) as base:
-        for table in ("faxes", "times", "copies", "originals", "sums"):
+        for table in ("faxes", "times", "copies", "originals"):
             base.execute(f"DELETE FROM {table} WHERE path = 'a.tif'")
         base.commit()
     put(tree, one)

@@ -98,7 +98,7 @@ def make_older(table: str) -> None:
         base.execute("UPDATE faxes SET status = 1, why = NULL WHERE status = 2")
         base.execute("DROP TABLE new")
         base.execute("DELETE FROM job WHERE name IN ('only', 'parts')")
-        for table in ("originals", "only_copies", "sums"):
+        for table in ("originals", "only_copies"):
             base.execute(f"DROP TABLE IF EXISTS {table}")
         base.execute("DELETE FROM job WHERE name IN ('only copies', 'verification')")
         base.execute("PRAGMA user_version = 2")

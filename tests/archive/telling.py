@@ -67,7 +67,8 @@ def clocks(room: Room, *_given: object) -> None:
     paths = few(room, "clocks")
     for number in range(2):
         room.run("check", "clocks", "--table", f"clock-{number}.sqlite", "--share", f"{number}/2")
-    change(room, "clock-0.sqlite", "UPDATE times SET checked = checked + 4e7, since = since + 4e7", "PRAGMA user_version = 3")
+    change(room, "clock-0.sqlite", "UPDATE times SET checked = checked + 4e7, since = since + 4e7",
+           "PRAGMA user_version = 3")
     parts = ["clock-0.sqlite", "clock-1.sqlite"]
     room.run("merge", "clock.sqlite", *parts)
     before = room.rows("clock.sqlite")

@@ -1,5 +1,5 @@
-"""A copy that cannot be marked as the only one of its fax: its fax is told with its name, all else is done, and the copy is
-not replaced."""
+"""A copy that cannot be marked as the only one of its fax: its fax is told with its name, all else is done, and the
+copy is not replaced."""
 
 from __future__ import annotations
 
@@ -92,7 +92,8 @@ def not_replaced(room: Room, *_given: object) -> None:
         with open(copy, "rb") as file:
             same = file.read() == faxpages.convert(one, "mmr")
         fault = "NoMark" if way == "it cannot be marked" else "Exists"
-        room.claim(f"another fax, {way}: {ran.error}", (ran.status, same, told(room, place)[0]["b.tif"][1]), (3, True, fault))
+        row = told(room, place)[0]["b.tif"]
+        room.claim(f"another fax, {way}: {ran.error}", (ran.status, same, row[1]), (3, True, fault))
 
 
 def long_name(room: Room, *_given: object) -> None:
@@ -130,7 +131,8 @@ def immutable(room: Room, *_given: object) -> None:
     one, _ = two()
     place = room("unmarked-immutable")
     copy = made(place, one)
-    if not shutil.which("chattr") or subprocess.run(["chattr", "+i", copy], capture_output=True, check=False).returncode:
+    if not shutil.which("chattr") or subprocess.run(
+            ["chattr", "+i", copy], capture_output=True, check=False).returncode:
         print("SKIPPED: no file can be made immutable here (e2fsprogs), so: no such copy is tried")
         return
     try:
@@ -139,7 +141,8 @@ def immutable(room: Room, *_given: object) -> None:
                    only_copies(place)), (3, True, ["a.tif", "c.tif"]))  # fmt: skip
     finally:
         subprocess.run(["chattr", "-i", copy], check=True)
-    room.claim("it can be changed", (room.run(*words_of(place))[0], only_copies(place)), (0, ["a.tif", "b.tif", "c.tif"]))
+    status = room.run(*words_of(place))[0]
+    room.claim("it can be changed", (status, only_copies(place)), (0, ["a.tif", "b.tif", "c.tif"]))
 
 
 PARTS: list[Part] = [unmarked, not_replaced, long_name, immutable]

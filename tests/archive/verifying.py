@@ -1,4 +1,5 @@
-"""What nobody reads in passing is looked at again: the only copies of faxes, by verify, and faxes whose bits have turned."""
+"""What nobody reads in passing is looked at again: the only copies of faxes, by verify, and faxes whose bits have
+turned."""
 
 from __future__ import annotations
 
@@ -60,11 +61,12 @@ def linked(path: str) -> None:
 
 
 def verified(room: Room, *_given: object) -> None:
-    """An only copy that has changed, was cut or is gone is found, with attributes and without: by the status, on the error
-    stream, in the table and in its figures, until it is right again."""
+    """An only copy that has changed, was cut or is gone is found, with attributes and without: by the status, on the
+    error stream, in the table and in its figures, until it is right again."""
     cases: dict[str, tuple[Callable[[str], object], str, str]] = {
         "turned": (turn, "Changed", SINCE), "cut": (lambda it: os.truncate(it, 20), "Changed", SINCE),
-        "gone": (os.unlink, "NoCopy", ""), "a link": (linked, "NoCopy", "Too many levels of symbolic links")}  # fmt: skip
+        "gone": (os.unlink, "NoCopy", ""),
+        "a link": (linked, "NoCopy", "Too many levels of symbolic links")}  # fmt: skip
     for error in (0, errno.ENOTSUP):
         place = room(f"verified-{error}")
         for way, (damage, fault, why) in cases.items():
@@ -78,7 +80,8 @@ def verified(room: Room, *_given: object) -> None:
                 ran = verify(place, "--names")
             line = f"b.tif: the only copy: {fault}" + (f": {why}" if why else "") + "\n"
             room.claim(f"{way}: {ran.error}", (ran.status, ran.error, ran.out), (
-                1, f"faxpages-archive: {line}", "only copies 3: 2 good, 1 changed or gone, 0 not read; 3 looked at now\n"))
+                1, f"faxpages-archive: {line}",
+                "only copies 3: 2 good, 1 changed or gone, 0 not read; 3 looked at now\n"))
             told = json.loads(room.run("table", f"{place}/t.sqlite", "--summary")[1])
             got = [told[it] for it in ("only_copies", "only_copies_good", "only_copies_faults")]
             room.claim(f"{way}: the table", (got, told["verified"] is not None, figures(room, place),
@@ -122,8 +125,8 @@ def verified_fields(room: Room, *_given: object) -> None:
 
 
 def only_ones(room: Room, *_given: object) -> None:
-    """Which copies are looked at: those of faxes that somebody deleted too, if they stand; not those whose faxes are there
-    again."""
+    """Which copies are looked at: those of faxes that somebody deleted too, if they stand; not those whose faxes are
+    there again."""
     place = room("verified-which")
     kept(place)
     for name in ("d.tif", "e.tif"):
@@ -138,7 +141,8 @@ def only_ones(room: Room, *_given: object) -> None:
     room.claim(f"one that came again: {ran.out}", verify(place).out.partition(":")[0], "only copies 3")
     put(f"{place}/tree/b.tif", two()[1])
     ran = playing.run(words_of(place), place, playing.Trouble())
-    room.claim(f"another one of that name: {ran.out}", (ran.status, verify(place).out.partition(":")[0]), (3, "only copies 3"))
+    count = verify(place).out.partition(":")[0]
+    room.claim(f"another one of that name: {ran.out}", (ran.status, count), (3, "only copies 3"))
 
 
 def verified_amid(room: Room, *_given: object) -> None:
@@ -161,8 +165,8 @@ def verified_amid(room: Room, *_given: object) -> None:
 
 
 def verified_older(room: Room, *_given: object) -> None:
-    """Copies of faxes that versions before 1.12 deleted are looked at too, and those of parts by the table that is merged of
-    them."""
+    """Copies of faxes that versions before 1.12 deleted are looked at too, and those of parts by the table that is
+    merged of them."""
     place = room("verified-older")
     kept(place)
     make_older(f"{place}/t.sqlite")
@@ -175,8 +179,10 @@ def verified_older(room: Room, *_given: object) -> None:
             shutil.copy(f"{place}/t.sqlite", f"{place}/{table}")
             make_older(f"{place}/{table}")
         playing.run(["merge", f"{place}/merged-{table}", f"{place}/{table}"], place, playing.Trouble())
-        ran = playing.run(["verify", f"{place}/copies", "--names", "--table", f"{place}/merged-{table}"], place, playing.Trouble())
-        room.claim(f"a table that is merged of {table}", (ran.status, ran.error, ran.out.partition(":")[0]), (1, said, "only copies 3"))
+        words = ["verify", f"{place}/copies", "--names", "--table", f"{place}/merged-{table}"]
+        ran = playing.run(words, place, playing.Trouble())
+        room.claim(f"a table that is merged of {table}", (ran.status, ran.error, ran.out.partition(":")[0]),
+                   (1, said, "only copies 3"))
 
 
 def other_rows(fax: bytes) -> bytes:
@@ -191,8 +197,8 @@ def other_rows(fax: bytes) -> bytes:
 
 
 def turned(room: Room, *_given: object) -> None:
-    """A fax whose bits have turned, with the size and the time that it had, is found by --again all, also where it has no
-    fault, and is not called good until it has its bytes again, or another time. Its copy stays."""
+    """A fax whose bits have turned, with the size and the time that it had, is found by --again all, also where it
+    has no fault, and is not called good until it has its bytes again, or another time. Its copy stays."""
     fax = drawn()[""]
     wrong = other_rows(fax)
     for job in ("check", "convert"):
@@ -202,7 +208,8 @@ def turned(room: Room, *_given: object) -> None:
         put(f"{place}/tree/b.tif", fax, mtime=TIME)
         room.claim(f"{job}: first", playing.run(words, place, playing.Trouble()).status, 0)
         for way, data, again, wanted in (
-                ("turned", wrong, list[str](), 0), ("turned", wrong, ["--again", "all"], 1), ("turned still", wrong, ["--again", "all"], 1),
+                ("turned", wrong, list[str](), 0), ("turned", wrong, ["--again", "all"], 1),
+                ("turned still", wrong, ["--again", "all"], 1),
                 ("turned still", wrong, list[str](), 1), ("cut", fax[:4] + bytes(len(fax) - 4), ["--again", "all"], 1),
                 ("turned after that", wrong, ["--again", "all"], 1), ("right", fax, ["--again", "faulty"], 0),
                 ("turned again", wrong, ["--again", "all"], 1)):
@@ -248,9 +255,10 @@ def stays(room: Room, *_given: object) -> None:
     out = room.run("table", f"{place}/t.sqlite", "--prometheus")[1].decode()
     said = room.run("table", f"{place}/t.sqlite", "--faulty")[1].decode()
     lines = room.run("table", f"{place}/t.sqlite", "--faulty", "--csv")[1].decode().splitlines()
-    room.claim("what stays is counted", (told["stays"], f'",why="Young"}} 1\n' in out.partition("archive_stays{")[2], said,
-               [line.partition(",")[0] for line in lines]), (
-        {"Young": 1}, True, "b.tif: not deleted: Young: it changed within the last minute\n", ["path", "b.tif"]))  # fmt: skip
+    figure = f'",why="Young"}} 1\n' in out.partition("archive_stays{")[2]
+    room.claim("what stays is counted", (told["stays"], figure, said, [line.partition(",")[0] for line in lines]), (
+        {"Young": 1}, True, "b.tif: not deleted: Young: it changed within the last minute\n",
+        ["path", "b.tif"]))  # fmt: skip
 
 
 PARTS: list[Part] = [verified, verified_fields, only_ones, verified_amid, verified_older, turned, stays]

@@ -1,5 +1,5 @@
-"""Faxes that are still coming in: faxpages-receive leaves them, faxpages-sweep passes them, and the archive has the same
-rule."""
+"""Faxes that are still coming in: faxpages-receive leaves them, faxpages-sweep passes them, and the archive has the
+same rule."""
 
 from __future__ import annotations
 
@@ -29,7 +29,11 @@ WAYS = ("free", "read", "written", "locked")
 # Ages of a fax in seconds, below 0 in the future, and whether it is young.
 AGES = {0: True, 50: True, 70: False, 86400: False, -50: True, -70: False}
 # The archive's rule, of a file by its name.
-RULE = "import os, sys; from faxpages.archive._incoming import why_incoming as why; print(why(os.open(sys.argv[1], 0)) or '')"
+RULE = """
+import os, sys
+from faxpages.archive._incoming import why_incoming
+print(why_incoming(os.open(sys.argv[1], os.O_RDONLY)) or "")
+"""
 OTHER_DISK = "/dev/shm"
 
 
@@ -72,8 +76,8 @@ def one_rule(room: Room) -> Iterator[Claim]:
                     said = [room.call("sh", "-c", words, more)[1].decode().strip() for more in ("", "--whole")]
                     yield f"{way}, {age} s, perl {perl is None}", said, [wanted(way, young), wanted(way, False)]
                 os.remove(f"{room.path}/bin/perl")
-                told = room.call(sys.executable, "-c", RULE, "fax.tif", PYTHONPATH=MODULE, **room.module)[1].decode().strip()
-                yield f"{way}, {age} s: the archive", told.partition(": ")[2], wanted(way, young)
+                told = room.call(sys.executable, "-c", RULE, "fax.tif", PYTHONPATH=MODULE, **room.module)[1].decode()
+                yield f"{way}, {age} s: the archive", told.strip().partition(": ")[2], wanted(way, young)
 
 
 def received(room: Room) -> Iterator[Claim]:
@@ -96,7 +100,7 @@ def received(room: Room) -> Iterator[Claim]:
                     there = os.path.exists(os.path.join(room(""), folder, "good", "fax.tif"))
                     told = (status, said, os.path.exists(room("fax.tif")), there)
                     yield f"{where}, {way}, {age} s, {whole}", told, (
-                        (3, f"faxpages-receive: ./fax.tif stays: {why}\n", True, False) if why else (0, "", False, True))
+                        3, f"faxpages-receive: ./fax.tif stays: {why}\n", True, False) if why else (0, "", False, True)
                     room.call("rm", "-rf", folder, "fax.tif")
     yield "nothing of it is left", room.left(), []
 
@@ -118,7 +122,8 @@ def written_late(room: Room) -> Iterator[Claim]:
     room.put("gate", b"")
     status, _, said = room.call("faxpages-receive", "--whole", "fax.tif", "sorted")
     yield "a writer comes late", (status, said), (3, f"faxpages-receive: ./fax.tif stays: {IN_USE}\n")
-    yield "a writer comes late: it is not copied", (os.path.exists(room("fax.tif")), room.names("sorted/good")), (True, [])
+    there = os.path.exists(room("fax.tif")), room.names("sorted/good")
+    yield "a writer comes late: it is not copied", there, (True, [])
     os.remove(room("gate"))
     os.remove(f"{room.path}/bin/ln")
     room.tool("faxpages", f'#!/bin/sh\nexec {room.program} "$@"\n')

@@ -1,10 +1,11 @@
 """Checks, or converts, all faxes of an archive, and keeps what it found in a table of SQLite:
 
     faxpages-archive check TREE --table TABLE.sqlite [--processes N | --dask | --scheduler ADDRESS]
-        [--timeout SECONDS] [--again unread | faulty | all] [--share I/N] [--follow] [--renew] [--gone] [--names] [--faults-ok]
-        [--lost]
+        [--timeout SECONDS] [--again unread | faulty | all] [--share I/N] [--follow] [--renew] [--gone] [--names]
+        [--faults-ok] [--lost]
     faxpages-archive convert TREE TARGET --to pbm | mh | mr | mmr --table TABLE.sqlite [..] [--again copies]
-        [--order 1 | 2] [--k K] [--strip ROWS] [--align] [--fields] [--adopt] [--delete [--all-or-nothing] [--give-up WHAT]]
+        [--order 1 | 2] [--k K] [--strip ROWS] [--align] [--fields] [--adopt]
+        [--delete [--all-or-nothing] [--give-up WHAT]]
     faxpages-archive table TABLE.sqlite --csv | --json | --summary | --prometheus | --faulty
     faxpages-archive verify TARGET --table TABLE.sqlite [--processes N | ..] [--timeout SECONDS] [--gone] [--names]
     faxpages-archive merge TABLE.sqlite PART.sqlite..

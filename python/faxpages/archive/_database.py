@@ -39,14 +39,14 @@ CREATE TABLE IF NOT EXISTS runs (
     unread INTEGER NOT NULL);
 CREATE TABLE IF NOT EXISTS job (name TEXT PRIMARY KEY NOT NULL, value TEXT NOT NULL);
 """
-# What versions before 1.12 did not keep: the digests of faxes as they were read; the only copies of faxes that have gone,
-# and what was found of each by which verification; and a sum of each row, by which it is known that it is damaged.
+# What versions before 1.12 did not keep: the digests of faxes as they were read; the only copies of faxes that have
+# gone, and what was found of each by which verification; and a sum of each row, which says whether it is damaged.
 _SINCE = """
-CREATE TABLE IF NOT EXISTS {0}originals (path PRIMARY KEY NOT NULL, size INTEGER, mtime REAL, digest BLOB NOT NULL);
+CREATE TABLE IF NOT EXISTS {0}originals (
+    path PRIMARY KEY NOT NULL, size INTEGER, mtime REAL, digest BLOB, sum INTEGER NOT NULL);
 CREATE TABLE IF NOT EXISTS {0}only_copies (
-    path PRIMARY KEY NOT NULL, digest TEXT, fields_digest TEXT, fault TEXT, why TEXT, verified REAL, run INTEGER NOT NULL,
-    sum INTEGER);
-CREATE TABLE IF NOT EXISTS {0}sums (path PRIMARY KEY NOT NULL, sum INTEGER NOT NULL);
+    path PRIMARY KEY NOT NULL, digest TEXT, fields_digest TEXT, fault TEXT, why TEXT, verified REAL,
+    run INTEGER NOT NULL, sum INTEGER);
 """
 # The sum of a row, with what is known of its fax and of its copy.
 _SUMMED = ", ".join(["path", *(f"faxes.{name}" for name in COLUMNS[1:]), "since", "checked", "run", "origin", *(
@@ -130,6 +130,8 @@ class Database:
                 self._make()
             else:
                 self._read_as_it_stands()
+            # Of rows that are the first ones of their faxes the sums are known without reading them.
+            self._is_new = self._base.execute("SELECT 1 FROM faxes LIMIT 1").fetchone() is None
         except BaseException:
             self._close()
             raise
@@ -161,13 +163,14 @@ class Database:
 
     def _damaged_rows(self) -> List[str]:
         """What is said of rows that are not as they were written; nothing where all are."""
-        for query in (f"SELECT count(*), min(path) FROM {_JOINED} LEFT JOIN sums USING (path) WHERE sums.sum IS NOT {_SUM}",
-                      *(f"SELECT count(*), min(path) FROM {name} NOT INDEXED WHERE path NOT IN (SELECT path FROM faxes)"
-                        for name in ("times", "copies", "originals", "sums")),
-                      f"SELECT count(*), min(path) FROM only_copies WHERE sum IS NOT {ONLY_SUM}"):
-            count, path = self._base.execute(query).fetchone()
+        for rows in (f"{_JOINED} WHERE originals.sum IS NOT {_SUM}",
+                     *(f"{name} NOT INDEXED WHERE path NOT IN (SELECT path FROM faxes)"
+                       for name in ("times", "copies", "originals")),
+                     f"only_copies WHERE sum IS NOT {ONLY_SUM}"):
+            count, path = self._base.execute(f"SELECT count(*), min(path) FROM {rows}").fetchone()
             if count:
-                return [f"{count} of its rows are not as they were written, as that of {ascii(text_of(bytes_of(path)))[1:-1]}"]
+                name = ascii(text_of(bytes_of(path)))[1:-1]
+                return [f"{count} of its rows are not as they were written, as that of {name}"]
         return []
 
     def touch(self, paths: Iterable[Path]) -> None:
@@ -176,7 +179,8 @@ class Database:
 
     def _make_sums(self) -> None:
         """Makes the sums of the rows that have changed anew."""
-        query = f"INSERT OR REPLACE INTO sums SELECT path, {_SUM} FROM {_JOINED} WHERE path = ?"
+        query = (f"INSERT INTO originals (path, sum) SELECT path, {_SUM} FROM {_JOINED} WHERE path = ? "
+                 "ON CONFLICT (path) DO UPDATE SET sum = excluded.sum")
         self._base.executemany(query, ((path,) for path in self._touched))
         self._touched.clear()
 
@@ -203,7 +207,8 @@ class Database:
     def _is_foreign(self) -> bool:
         """Whether there are tables already, and these are not those of an archive."""
         tables = {str(name) for (name,) in self._base.execute("SELECT name FROM sqlite_master")}
-        return self._format() not in (0, _BEFORE, _BEFORE_DIGESTS, _FORMAT) or bool(tables) and not {"faxes", "times", "job"} <= tables
+        known = self._format() in (0, _BEFORE, _BEFORE_DIGESTS, _FORMAT)
+        return not known or bool(tables) and not {"faxes", "times", "job"} <= tables
 
     def _make(self) -> None:
         """Makes the tables, and brings those of an earlier version up to date."""
@@ -220,7 +225,8 @@ class Database:
             self._begin_anew()
         for name in ("times", "copies"):
             self._base.execute(f"DELETE FROM {name} WHERE path NOT IN (SELECT path FROM faxes)")
-        self._base.execute(f"INSERT OR REPLACE INTO sums SELECT path, {_SUM} FROM {_JOINED}")
+        self._base.execute(f"INSERT INTO originals (path, sum) SELECT path, {_SUM} FROM {_JOINED} WHERE true "
+                           "ON CONFLICT (path) DO UPDATE SET sum = excluded.sum")
         self._base.execute(f"PRAGMA user_version = {_FORMAT}")
         self.commit_all()
 

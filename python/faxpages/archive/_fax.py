@@ -82,7 +82,7 @@ class Found(NamedTuple):
 
 class Done(NamedTuple):
     """What came of a fax: its row; its copy and the copy's fields, if they stand; of a fax that was compared with its
-    copy, what it is known by, and what these are; and the digest of its bytes, if they are what is to be found again."""
+    copy, what it is known by, and what these are; and the digest of its bytes, if it is to be kept."""
 
     found: Found
     copy: Optional[Stood] = None
@@ -95,8 +95,8 @@ class Done(NamedTuple):
 
 class Job(NamedTuple):
     """What is done with each fax below a tree: a check; or, where a target is named, a conversion; or a comparison
-    with the copy that is there; or only a look at its copy, where it was deleted. owner is whose copies are ours; adopt takes over copies that have the right bytes; lost
-    counts the rows of faulty faxes."""
+    with the copy that is there; or only a look at its copy, where it was deleted. owner is whose copies are ours;
+    adopt takes over copies that have the right bytes; lost counts the rows of faulty faxes."""
 
     tree: bytes
     target: Optional[bytes] = None
@@ -283,26 +283,37 @@ def _stands(place: Place, digest: str, fax: os.stat_result) -> Tuple[Stood, Seen
 
 
 def _read(path: bytes, follow: bool, looks: bool) -> Tuple[bytes, os.stat_result, Optional[str]]:
-    """The bytes of a fax, what the system told of it before they were read, and, where that is to be looked at, why it may
-    still be coming in. One that changes meanwhile is not read."""
+    """The bytes of a fax, what the system told of it before they were read, and, where that is to be looked at, why it
+    may still be coming in. One that changes meanwhile is not read."""
     way = os.O_RDONLY | os.O_NONBLOCK | os.O_CLOEXEC | (0 if follow else os.O_NOFOLLOW)
     try:
         file = os.open(path, way)
     except OSError as error:
         raise _NotRead("Open", error.strerror) from None
-    with open(file, "rb", buffering=0) as opened:
-        try:
-            told = os.fstat(file)
-            if not stat.S_ISREG(told.st_mode):
-                raise _NotRead("Read", "no regular file")
-            if told.st_size > _MOST:
-                raise _NotRead("Read", f"more than {_MOST} bytes")
-            data, now = opened.readall(), os.fstat(file)
-            if (len(data), now.st_size, now.st_mtime_ns) != (told.st_size, told.st_size, told.st_mtime_ns):
-                raise _NotRead("Changed", "it changed while it was read")
-            return data, told, why_incoming(file) if looks else None
-        except OSError as error:
-            raise _NotRead("Read", error.strerror) from None
+    try:
+        told = os.fstat(file)
+        if not stat.S_ISREG(told.st_mode):
+            raise _NotRead("Read", "no regular file")
+        if told.st_size > _MOST:
+            raise _NotRead("Read", f"more than {_MOST} bytes")
+        data, now = _all_of(file, told.st_size), os.fstat(file)
+        if (len(data), now.st_size, now.st_mtime_ns) != (told.st_size, told.st_size, told.st_mtime_ns):
+            raise _NotRead("Changed", "it changed while it was read")
+        return data, told, why_incoming(file) if looks else None
+    except OSError as error:
+        raise _NotRead("Read", error.strerror) from None
+    finally:
+        os.close(file)
+
+
+def _all_of(file: int, size: int) -> bytes:
+    """The bytes of a file that has so many; one more where it has grown."""
+    pieces, left = [os.read(file, size + 1)], size
+    left -= len(pieces[0])
+    while left > 0 and pieces[-1]:
+        pieces.append(os.read(file, left + 1))
+        left -= len(pieces[-1])
+    return b"".join(pieces) if len(pieces) > 1 else pieces[0]
 
 
 def _checked(data: bytes, fax: Waiting) -> Found:

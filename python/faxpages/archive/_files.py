@@ -17,7 +17,9 @@ import time
 from typing import BinaryIO, Callable, Dict, Iterator, NamedTuple, Optional, Tuple
 
 from ._incoming import why_incoming
-from ._marks import Mark, Owner, Place, digest_of_only, is_only, mark_of, name_of, only_of, put_mark, put_only, take_only
+from ._marks import (
+    Mark, Owner, Place, digest_of_only, is_only, mark_of, name_of, only_of, put_mark, put_only, take_only,
+)
 
 _FOLDER = os.O_RDONLY | os.O_DIRECTORY | os.O_CLOEXEC
 # A name that is a link is refused, and one that is a pipe is not waited for.
@@ -240,8 +242,8 @@ def read(place: Place, most: int) -> Tuple[bytes, os.stat_result]:
 
 
 class Copy(NamedTuple):
-    """What is to stand in a place: bytes, like which file, its name below TARGET, the digest that the table knows of what
-    stands there, whose copies are ours, and whether a file that has the bytes already becomes ours."""
+    """What is to stand in a place: bytes, like which file, its name below TARGET, the digest that the table knows of
+    what stands there, whose copies are ours, and whether a file that has the bytes already becomes ours."""
 
     data: bytes
     like: os.stat_result
@@ -442,8 +444,8 @@ def _remove(part: Place) -> None:
 
 
 def disown(target: Root, relative: bytes, owner: Owner, stood: Optional[Stood]) -> Optional[str]:
-    """Marks a copy whose fax is gone as the only one, so that no other fax of this name replaces it, unless it is marked
-    so. Why it cannot be marked, or read, if so."""
+    """Marks a copy whose fax is gone as the only one, so that no other fax of this name replaces it, unless it is
+    marked so. Why it cannot be marked, or read, if so."""
     try:
         with target.place(relative) as place, opened(place) as file:
             if file is not None and not is_only(place, file) and _is_known(file, relative, owner, stood):
@@ -503,8 +505,8 @@ def keep_only(target: Root, relative: bytes, copy: Seen, owner: Owner) -> Option
 
 
 def is_kept(target: Root, relative: bytes, copy: Seen) -> bool:
-    """Whether the only copy stands in its place in TARGET, is as it was compared, and has its mark: the last look before
-    its fax goes."""
+    """Whether the only copy stands in its place in TARGET, is as it was compared, and has its mark: the last look
+    before its fax goes."""
     try:
         with target.place(relative) as place, opened(place) as file:
             return (file is not None and seen_of(os.fstat(file)).is_same(copy) and is_only(place, file)
@@ -514,8 +516,8 @@ def is_kept(target: Root, relative: bytes, copy: Seen) -> bool:
 
 
 def marks(path: bytes) -> Iterator[Tuple[bytes, str, bool, Optional[str]]]:
-    """The copies below TARGET that have a mark: their names, the numbers of their tables, whether they are the only ones,
-    and their digests, where the marks have them."""
+    """The copies below TARGET that have a mark: their names, the numbers of their tables, whether they are the only
+    ones, and their digests, where the marks have them."""
     for folder, _, names in os.walk(path):
         for name in names:
             relative = os.path.relpath(os.path.join(folder, name), path)
@@ -529,8 +531,8 @@ def marks(path: bytes) -> Iterator[Tuple[bytes, str, bool, Optional[str]]]:
 
 
 def damage(target: Root, relative: bytes, digest: str) -> Tuple[str, Optional[str]]:
-    """What is wrong with an only copy, which is to have this digest, and what else is known of it: NoCopy, Changed, or that
-    it cannot be read; nothing where it is right. Where no digest was kept it only has to be there."""
+    """What is wrong with an only copy, which is to have this digest, and what else is known of it: NoCopy, Changed,
+    or that it cannot be read; nothing where it is right. Where no digest was kept it only has to be there."""
     try:
         with target.place(relative) as place, opened(place) as file:
             if file is None:
@@ -566,8 +568,8 @@ class Links:
             return False
 
     def unlink(self, place: Place, fax: Seen, copy_is_kept: Callable[[], bool]) -> Optional[str]:
-        """Deletes a name of a fax, or a link to one, if it is not coming in, its copy is kept and it is as it was, which
-        are looked at last; why not, if they are not."""
+        """Deletes a name of a fax, or a link to one, if it is not coming in, its copy is kept and it is as it was,
+        which are looked at last; why not, if they are not."""
         file = os.open(place.name, os.O_PATH | os.O_NOFOLLOW | os.O_CLOEXEC, dir_fd=place.folder)
         try:
             incoming = _incoming(place)
@@ -606,8 +608,8 @@ def depth_of(path: bytes) -> int:
 
 
 def stays(tree: Root, relative: bytes, fax: Seen, links: Links) -> Optional[str]:
-    """Why a fax is not to be deleted: it stands in a folder that a link leads to, it is not as it was, or it is coming in;
-    else None."""
+    """Why a fax is not to be deleted: it stands in a folder that a link leads to, it is not as it was, or it is
+    coming in; else None."""
     try:
         with tree.place(relative) as place:
             return _incoming(place) if links.is_still(place, fax) else "Changed"
@@ -616,8 +618,8 @@ def stays(tree: Root, relative: bytes, fax: Seen, links: Links) -> Optional[str]
 
 
 def delete(tree: Root, relative: bytes, fax: Seen, links: Links, copy_is_kept: Callable[[], bool]) -> Optional[str]:
-    """Deletes a fax that stands in the tree, is as it was and is not coming in, or a link, if its copy is kept; why it is
-    not gone, if it is not."""
+    """Deletes a fax that stands in the tree, is as it was and is not coming in, or a link, if its copy is kept; why
+    it is not gone, if it is not."""
     try:
         with tree.place(relative) as place:
             return links.unlink(place, fax, copy_is_kept)

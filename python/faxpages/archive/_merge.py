@@ -142,7 +142,8 @@ def summary(table: Table) -> Dict[str, Any]:
 
 
 def _label(text: str) -> str:
-    """A value of a label, in which Prometheus knows three escapes. A byte of a name that is no UTF-8 is shown as one."""
+    """A value of a label, in which Prometheus knows three escapes. A byte of a name that is no UTF-8 is shown as
+    one."""
     shown_bytes = text.encode("utf-8", "surrogateescape").decode("utf-8", "backslashreplace")
     return shown_bytes.replace("\\", "\\\\").replace('"', '\\"').replace("\n", "\\n")
 

@@ -1,5 +1,5 @@
-"""What a table knows of the only copies: those of faxes that have gone, and what was found of each when all were looked at
-last."""
+"""What a table knows of the only copies: those of faxes that have gone, and what was found of each when all were
+looked at last."""
 
 from __future__ import annotations
 
@@ -43,7 +43,8 @@ class OnlyCopies(Database):
         if self._value("only copies") is None:
             # Versions before 1.12 kept the digests with what they deleted.
             self._base.execute(
-                "INSERT OR IGNORE INTO only_copies SELECT path, digest, NULL, NULL, NULL, NULL, 0, row_sum(path, digest, NULL) "
+                "INSERT OR IGNORE INTO only_copies "
+                "SELECT path, digest, NULL, NULL, NULL, NULL, 0, row_sum(path, digest, NULL) "
                 "FROM (SELECT path, digest, max(rowid) FROM deleted WHERE deleted > 0 GROUP BY path) "
                 "WHERE path NOT IN (SELECT path FROM copies WHERE ours)")
             self._base.execute("INSERT INTO job VALUES ('only copies', 'noted')")

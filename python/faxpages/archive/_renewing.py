@@ -57,8 +57,8 @@ def _number_in(marks: Set[str]) -> Set[str]:
     """The number of a table that cannot be read, where all copies below TARGET have marks of one table."""
     marks.discard("?")
     if len(marks) > 1:
-        say("whose the copies are cannot be told, since marks of several tables are below TARGET: --adopt takes over those "
-            "that are right")
+        say("whose the copies are cannot be told, since marks of several tables are below TARGET: --adopt takes over "
+            "those that are right")
     return marks if len(marks) == 1 else set()
 
 

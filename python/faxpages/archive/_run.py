@@ -299,7 +299,8 @@ class Run:
         """Marks the copy of a fax that is gone, and its fields; why they cannot be marked, which is said."""
         assert self._target is not None
         name, copied = self._job.copy_of(path), self._table.copied(path)
-        for each, stood in ((name, copied.copy if copied else None), (name + FIELDS, copied.fields if copied else None)):
+        known = (copied.copy, copied.fields) if copied is not None else (None, None)
+        for each, stood in zip((name, name + FIELDS), known):
             why = files.disown(self._target, each, self._job.owner, stood)
             if why is not None:
                 say(f"NoMark: {shown(each)}: {why}")
@@ -418,10 +419,10 @@ class Run:
         return files.depth_of(os.path.join(self._job.tree, path)) if self._job.follow else 0
 
     def _delete_some(self, batch: List[Compared]) -> Tuple[int, int, int]:
-        """Deletes some faxes: how many are deleted, how many are not, and how many stand outside. Their rows go first,
-        since a row that is left would have the next fax of this name be written over the copy. Then the copies are marked
-        as the only ones; and right before a fax goes its copy is looked at once more. The row of one that stays is put
-        back, and says why."""
+        """Deletes some faxes: how many are deleted, how many are not, and how many stand outside. Their rows go
+        first, since a row that is left would have the next fax of this name be written over the copy. Then the copies
+        are marked as the only ones; and right before a fax goes its copy is looked at once more. The row of one that
+        stays is put back, and says why."""
         tree = files.root_of(self._job.tree)
         ready: List[Compared] = []
         outside = 0

@@ -6,9 +6,9 @@ import heapq
 import json
 import os
 import time
-from typing import Any, Callable, Dict, Iterator, List, NamedTuple, Optional, Set, Tuple
+from typing import Any, Callable, Dict, Iterator, List, NamedTuple, Optional, Sequence, Set, Tuple
 
-from ._database import COLUMNS, PUT_COPY, Path, WrongTable, bytes_of, kept_path, text_of
+from ._database import COLUMNS, PUT_COPY, Path, WrongTable, bytes_of, kept_path, sum_of, text_of
 from ._fax import FAULTY, GOOD, NOT_READ, OTHER, Done, Found, Job, Waiting
 from ._files import Seen, Stood
 from ._marks import Owner
@@ -27,6 +27,8 @@ INSERT INTO times VALUES (?1, ?2, ?3, ?4, ?5) ON CONFLICT (path) DO UPDATE SET
             AND fault_page IS ?8 AND fault_row IS ?9) THEN min(since, excluded.since)
     ELSE excluded.since END
 """
+_PUT_ORIGINAL = ("INSERT INTO originals VALUES (?, ?, ?, ?, 0) ON CONFLICT (path) DO UPDATE SET "
+                 "size = excluded.size, mtime = excluded.mtime, digest = excluded.digest")
 _PUT = (f"INSERT INTO faxes VALUES ({', '.join('?' * len(COLUMNS))}) ON CONFLICT (path) DO UPDATE SET "
         + ", ".join(f"{name} = excluded.{name}" for name in COLUMNS[1:]))
 
@@ -62,8 +64,8 @@ class Copied(NamedTuple):
 
 
 class Compared(NamedTuple):
-    """A fax that was compared with its copy: its path, what it, the copy and the copy's fields are known by, and how many
-    links lead from its name to a file."""
+    """A fax that was compared with its copy: its path, what it, the copy and the copy's fields are known by, and how
+    many links lead from its name to a file."""
 
     path: bytes
     fax: Seen
@@ -202,7 +204,7 @@ class Table(OnlyCopies):
         """The digest of a fax as it was read before with this size and time; nothing where none is known."""
         found = self._base.execute("SELECT digest FROM originals WHERE path = ? AND size = ? AND mtime = ?",
                                    (kept_path(fax.path), fax.size, fax.mtime)).fetchone()
-        return bytes(found[0]) if found is not None else b""
+        return bytes(found[0] or b"") if found is not None else b""
 
     def last(self) -> int:
         """The greatest number of a row."""
@@ -230,19 +232,24 @@ class Table(OnlyCopies):
         none is written."""
         now = time.time()
         look = Look(now, now, run, origin)
-        self._put([(one.found, look) for one in done])
-        self._base.executemany("INSERT OR REPLACE INTO originals VALUES (?, ?, ?, ?)", (
-            (kept_path(one.found.path), one.found.size, one.found.mtime, one.digest) for one in done if one.digest))
+        self._put([(one.found, look) for one in done], not self._is_new)
+        if self._is_new:
+            self._base.executemany("INSERT INTO originals VALUES (?, ?, ?, ?, ?)", (
+                (*_original(one), _sum_of(one, look)) for one in done))
+        else:
+            self._base.executemany(_PUT_ORIGINAL, (_original(one) for one in done if one.digest))
         copies = [one for one in done if one.copy is not None]
         self.drop_only([one.found.path for one in copies if one.copy is not None and one.copy.ours])
         self._base.executemany(PUT_COPY, (
             (kept_path(one.found.path), *(one.copy or ()), *(one.fields or (None,) * 4)) for one in copies))
 
-    def _put(self, rows: List[Tuple[Found, Look]]) -> None:
+    def _put(self, rows: List[Tuple[Found, Look]], touched: bool = True) -> None:
         self.begin()
         self._base.executemany(_PUT_TIME, (
             (kept_path(row.path), *look, row.status, row.fault, row.fault_page, row.fault_row) for row, look in rows))
-        self.touch(kept_path(row.path) for row, _ in rows)
+        if touched:
+            self._is_new = False
+            self.touch(kept_path(row.path) for row, _ in rows)
         self._base.executemany(_PUT, ((kept_path(row.path), *row[1:]) for row, _ in rows))
 
     def unseen(self, seen: bytearray) -> Iterator[bytes]:
@@ -255,7 +262,7 @@ class Table(OnlyCopies):
         """Takes out the rows of these faxes, and what is known of their copies."""
         self.begin()
         kept = [(kept_path(path),) for path in paths]
-        for name in ("faxes", "times", "copies", "originals", "sums"):
+        for name in ("faxes", "times", "copies", "originals"):
             self._base.executemany(f"DELETE FROM {name} WHERE path = ?", kept)
 
     def forget_copies(self, paths: List[bytes]) -> None:
@@ -270,8 +277,8 @@ class Table(OnlyCopies):
         return [bytes_of(path) for (path,) in found]
 
     def are_not_marked(self, whys: Dict[bytes, str], run: int, origin: str) -> int:
-        """Notes of these faxes that they have gone, and why their copies cannot be marked. How many of them were due, since
-        others have their names, and are so no more."""
+        """Notes of these faxes that they have gone, and why their copies cannot be marked. How many of them were due,
+        since others have their names, and are so no more."""
         now = time.time()
         rows = [(row._replace(status=NOT_READ, fault="NoMark", fault_page=None, fault_row=None, fault_tag=None,
                               why=whys[path]), Look(now, now, run, origin))
@@ -280,8 +287,9 @@ class Table(OnlyCopies):
         return sum(self._base.execute("DELETE FROM waiting WHERE path = ?", (path,)).rowcount for path in whys)
 
     def forget_deleted(self, paths: List[bytes]) -> List[Tuple[Found, Look]]:
-        """Takes out the rows of faxes that are about to be deleted, and keeps their sizes and times. Committed. The time
-        of their deletion is 0 until it is known that they are gone. The rows, to be put back where a fax stays."""
+        """Takes out the rows of faxes that are about to be deleted, and keeps their sizes and times. Committed. The
+        time of their deletion is 0 until it is known that they are gone. The rows, to be put back where a fax
+        stays."""
         self.begin()
         rows = [row for path in paths for row in self._row(path)]
         self._base.executemany(
@@ -320,8 +328,8 @@ class Table(OnlyCopies):
     def stays(self) -> Dict[str, int]:
         """How many good faxes were to be deleted and are there, by the reason."""
         return dict(self._base.execute(
-            "SELECT substr(why, 1, instr(why || ':', ':') - 1), count(*) FROM faxes WHERE status = ? AND why IS NOT NULL "
-            "GROUP BY 1 ORDER BY 1", (GOOD,)))
+            "SELECT substr(why, 1, instr(why || ':', ':') - 1), count(*) FROM faxes "
+            "WHERE status = ? AND why IS NOT NULL GROUP BY 1 ORDER BY 1", (GOOD,)))
 
     def about_to_be_deleted(self) -> List[bytes]:
         """The faxes that were about to be deleted, and of which it is not known whether they are gone."""
@@ -411,8 +419,8 @@ class Table(OnlyCopies):
                            (it.path, *it.fax, *it.copy, *(it.fields or (None,) * 5), it.depth))
 
     def all_compared(self) -> Iterator[List[Compared]]:
-        """The faxes that were compared, some at a time. A link in the tree to a fax of the tree comes before it: alone it
-        would lead nowhere."""
+        """The faxes that were compared, some at a time. A link in the tree to a fax of the tree comes before it:
+        alone it would lead nowhere."""
         for (depth,) in self._base.execute("SELECT DISTINCT depth FROM compared ORDER BY depth DESC").fetchall():
             last = 0
             while True:
@@ -466,8 +474,9 @@ class Table(OnlyCopies):
     def put_looks(self, looks: List[Whole]) -> None:
         """Writes rows of another table."""
         self._put([(row, look) for row, look, _, _ in looks])
-        self._base.executemany(PUT_COPY, ((kept_path(row.path), *copy) for row, _, copy, _ in looks if copy is not None))
-        self._base.executemany("INSERT OR REPLACE INTO originals VALUES (?, ?, ?, ?)", (
+        self._base.executemany(PUT_COPY, (
+            (kept_path(row.path), *copy) for row, _, copy, _ in looks if copy is not None))
+        self._base.executemany(_PUT_ORIGINAL, (
             (kept_path(row.path), *original) for row, _, _, original in looks if original is not None))
 
     def put_only_copies(self, part: "Table") -> None:
@@ -504,6 +513,25 @@ class Table(OnlyCopies):
         """How many rows are of what is no fax that is read here, by what it is."""
         return dict(self._base.execute(
             "SELECT ifnull(why, 'something else'), count(*) FROM faxes WHERE status = ? GROUP BY 1 ORDER BY 1", (OTHER,)))
+
+
+def _original(one: Done) -> Tuple[Any, ...]:
+    """What is kept of a fax as it was read."""
+    if not one.digest:
+        return kept_path(one.found.path), None, None, None
+    return kept_path(one.found.path), one.found.size, one.found.mtime, one.digest
+
+
+def _sum_of(one: Done, look: Look) -> int:
+    """The sum of the first row of a fax, as the table makes it."""
+    none = (None,) * 4
+    path, *original = _original(one)
+    return sum_of(path, *one.found[1:], *look, *_kept(one.copy or none), *_kept(one.fields or none), *original)
+
+
+def _kept(stood: Sequence[Any]) -> Tuple[Any, ...]:
+    """What is known of a copy, as SQLite keeps it: it has no truth values."""
+    return tuple(int(it) if isinstance(it, bool) else it for it in stood)
 
 
 def _compared(row: Tuple[Any, ...]) -> Compared:

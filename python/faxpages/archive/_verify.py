@@ -16,8 +16,8 @@ from ._table import Table
 
 
 def verify(words: argparse.Namespace) -> int:
-    """Compares each only copy below TARGET with its digest. The status is 1 where one has changed or is not there, and 3
-    where one cannot be read."""
+    """Compares each only copy below TARGET with its digest. The status is 1 where one has changed or is not there,
+    and 3 where one cannot be read."""
     target = os.path.abspath(os.fsencode(words.target))
     if not os.path.isdir(target):
         raise TableError(f"there is no folder {shown(target)}")
@@ -67,7 +67,8 @@ def _sum_up(table: Table, due: int) -> int:
     """Says what the only copies come to; the status."""
     found = table.only_copies()
     good, bad, unread = sides_of(found)
-    print(f"only copies {good + bad + unread}: {good} good, {bad} changed or gone, {unread} not read; {due} looked at now")
+    print(f"only copies {good + bad + unread}: {good} good, {bad} changed or gone, {unread} not read; "
+          f"{due} looked at now")
     return NOT_READ if unread else FAULTY if bad else GOOD
 
 

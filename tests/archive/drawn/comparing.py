@@ -378,18 +378,19 @@ class Comparison:
             self.claim(path not in faxes or self.words.delete, f"a row is lost: {path!r}")
 
     def _is_not_marked(self, path: bytes) -> bool:
-        """Whether the copy of a fax that had gone was not marked, since a call was refused, now or in a run before. Then it
-        is not known whose it is."""
+        """Whether the copy of a fax that had gone was not marked, since a call was refused, now or in a run before.
+        Then it is not known whose it is."""
         if self.after.rows[path].verdict != NOT_MARKED:
             return False
         before = self.before.rows.get(path)
-        self.claim(self.trouble.error is not None or before is not None and before.verdict == NOT_MARKED, f"not marked: {path!r}")
+        was = before is not None and before.verdict == NOT_MARKED
+        self.claim(self.trouble.error is not None or was, f"not marked: {path!r}")
         self.model.maybe.setdefault(self.job.table, set()).update(self._copies(path))
         return True
 
     def _is_done_alike(self, path: bytes) -> bool:
-        """Whether a fax was done though its row is as it was, since a run that goes on has the number that it had. Where
-        it is not known, nothing is sure of its copy."""
+        """Whether a fax was done though its row is as it was, since a run that goes on has the number that it had.
+        Where it is not known, nothing is sure of its copy."""
         sure = path in self.due and not self.troubled and path not in self._perhaps_due()
         if path in self.due and not sure:
             self.model.maybe.setdefault(self.job.table, set()).update(self._copies(path))
@@ -484,7 +485,8 @@ class Comparison:
         self.claim(more or least <= int(done.group(1)) <= most, f"done {done}, wanted {self.due}, perhaps {unsure}")
 
     def _deleted(self, worst: int) -> None:
-        """All that may be deleted is, or nothing, where the words ask for that; the status is 3 where a good fax stays."""
+        """All that may be deleted is, or nothing, where the words ask for that; the status is 3 where a good fax
+        stays."""
         good = [path for path, row in self.after.rows.items() if row.verdict.status == GOOD]
         left = [path for path in good if path in self.after.tree and self._share()[path].inside]
         self.claim(self.ran.status in (worst, NOT_READ), f"status {self.ran.status}, wanted {worst} or 3")
@@ -520,8 +522,8 @@ class Comparison:
                 self.claim(was is not None and now is not None and now.data == was.data, f"turned over: {name!r}")
 
     def _has_rotted(self, name: bytes) -> bool:
-        """Whether a copy had other bytes than its table knows, with the size and the time that it knows: then only a run
-        that reads copies tells."""
+        """Whether a copy had other bytes than its table knows, with the size and the time that it knows: then only a
+        run that reads copies tells."""
         known, there = self.model.stood.setdefault(self.job.table, {}).get(name), self.before.target.get(name)
         return known is not None and there is not None and there.data != known.data and (
             self.model.stands(self.job, name, self.before.target))
