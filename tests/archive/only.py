@@ -153,6 +153,9 @@ def merged_deletions(room: Room, *_given: object) -> None:
         status, _, error = room.run("merge", f"{place}/t.sqlite", *parts_of)
         told = json.loads(room.run("table", f"{place}/t.sqlite", "--summary")[1])
         room.claim(f"deletions are merged: {error}", (status, told["faxes"], told["deleted"]), (0, 0, 8))
+        with contextlib.closing(sqlite3.connect(f"{place}/t.sqlite")) as base:
+            noted = base.execute("SELECT value FROM job WHERE name = 'parts'").fetchone()
+        room.claim("parts without a row are noted", len(json.loads(noted[0])) if noted else 0, 2)
     about_to_be_merged(room, place, parts_of)
 
 

@@ -104,6 +104,7 @@ def _take(table: Table, parts: List[Table]) -> Set[bytes]:
             table.put_looks([it for it in batch if _is_newer(*it[:2], table.look(it[0].path), it[0].path in there)])
             there.update(row.path for row, *_ in batch)
         table.put_only_copies(part)
+        table.take_parts_of(part)
     return there
 
 

@@ -126,6 +126,11 @@ class Table(OnlyCopies):
         self.begin()
         self._base.execute("INSERT OR REPLACE INTO job VALUES ('parts', ?)", (json.dumps(sorted(numbers)),))
 
+    def take_parts_of(self, part: "Table") -> None:
+        """Notes the number of a part, and those of its own parts, also where none of its rows is left."""
+        noted = {str(it) for table in (self, part) for it in json.loads(table._value("parts") or "[]")}
+        self.take_parts((noted | {part.number()}) - {self.number(), ""})
+
     def job(self) -> Optional[Dict[str, Any]]:
         """Which job the table is of, or None where it is new."""
         told = self._value("job")
