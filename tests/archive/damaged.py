@@ -5,6 +5,7 @@ from __future__ import annotations
 import contextlib
 import os
 import random
+import re
 import shutil
 import sqlite3
 
@@ -157,4 +158,38 @@ def hurt(table: str, way: str) -> None:
         base.commit()
 
 
-PARTS: list[Part] = [believed, one_value, renewed]
+def unreadable(room: Room, *_given: object) -> None:
+    """Where the names of tables, or what makes them, are no text any more, this is damage like any other."""
+    place = room("damaged-schema")
+    made(place)
+    with open(f"{place}/t.sqlite", "rb") as file:
+        whole = file.read()
+    found = [match.start() for match in re.finditer(rb"CREATE TABLE|tablefaxes", whole)]
+    room.claim("the tables are named", len(found) > 3)
+    for at in found:
+        data = bytearray(whole)
+        data[at + 7] ^= 0x80
+        with open(f"{place}/copy.sqlite", "wb") as file:
+            file.write(data)
+        status, _, error = room.run("table", f"{place}/copy.sqlite", "--csv")
+        room.claim(f"byte {at + 7}: {error}", (status, "copy.sqlite is damaged: " in error), (3, True))
+
+
+def other_paths(room: Room, *_given: object) -> None:
+    """Where one bit of a path turns into another fax's path, in a table or in its index alone, the row is found."""
+    place = room("damaged-path")
+    made(place)
+    with open(f"{place}/t.sqlite", "rb") as file:
+        whole = file.read()
+    found = [match.start() for match in re.finditer(rb"20\.tif", whole)]
+    room.claim("the path stands in four tables and their indexes", len(found) >= 8)
+    for at in found:
+        data = bytearray(whole)
+        data[at + 1] ^= 0x08
+        with open(f"{place}/copy.sqlite", "wb") as file:
+            file.write(data)
+        status, _, error = room.run("table", f"{place}/copy.sqlite", "--csv")
+        room.claim(f"20.tif as 28.tif at byte {at}: {error}", (status, "copy.sqlite is damaged: " in error), (3, True))
+
+
+PARTS: list[Part] = [believed, one_value, renewed, unreadable, other_paths]

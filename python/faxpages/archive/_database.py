@@ -54,6 +54,10 @@ _SUMMED = ", ".join(["path", *(f"faxes.{name}" for name in COLUMNS[1:]), "since"
                                   "fields_ours")), "originals.size", "originals.mtime", "originals.digest"])
 _SUM = f"row_sum({_SUMMED})"
 _JOINED = ("faxes LEFT JOIN times USING (path) LEFT JOIN copies USING (path) LEFT JOIN originals USING (path)")
+# The rows of a table whose path is not the one by which its index finds them: of a row that is found by the index, SQLite
+# takes the path from there.
+_UNLIKE_ITS_INDEX = ("{0} AS it NOT INDEXED WHERE NOT EXISTS "
+                     "(SELECT 1 FROM {0} AS same WHERE same.path = it.path AND +same.rowid = it.rowid)")
 # The sum of what is known of an only copy.
 ONLY_SUM = "row_sum(path, digest, fields_digest)"
 _TEMPORARY = """
@@ -152,6 +156,9 @@ class Database:
             damage = [] if said == "ok" else [str(said).replace("\n", " ")]
             if not damage and self._format() == _FORMAT:
                 damage = self._damaged_rows()
+        except UnicodeDecodeError:
+            # SQLite names what it cannot read, by bytes that Python cannot show.
+            damage = ["what says which tables it has is no text"]
         except sqlite3.DatabaseError as error:
             # One that is locked, or cannot be read, need not be damaged.
             refused = isinstance(error, sqlite3.OperationalError) and not any(it in str(error) for it in _OF_DAMAGE)
@@ -166,6 +173,8 @@ class Database:
         for rows in (f"{_JOINED} WHERE originals.sum IS NOT {_SUM}",
                      *(f"{name} NOT INDEXED WHERE path NOT IN (SELECT path FROM faxes)"
                        for name in ("times", "copies", "originals")),
+                     *(_UNLIKE_ITS_INDEX.format(name)
+                       for name in ("faxes", "times", "copies", "originals", "only_copies")),
                      f"only_copies WHERE sum IS NOT {ONLY_SUM}"):
             count, path = self._base.execute(f"SELECT count(*), min(path) FROM {rows}").fetchone()
             if count:
