@@ -82,7 +82,7 @@ def sorted_faxes(room: Room, commands: str) -> Iterator[Claim]:
     room.tool("faxpages", "#!/bin/sh\necho 'fault: Memory' >&2\nexit 3\n")
     room.put("fax.tif", before["fax.tif"])
     status, _, said = room.bash(commands)
-    yield "memory", (status, said.endswith("stays: fault: Memory\n"), room.names()), (
+    yield "memory", (status, "stays: fault: Memory, where FAXPAGES_MEMORY_MIB allows 2048\n" in said, room.names()), (
         3,
         True,
         ["fax.tif", "faxes", "folder.tif"],
