@@ -3,7 +3,7 @@
 use crate::table::WrongLine;
 use crate::{text, words};
 use fax_bits::{
-    BitSink, BitSource, BlackRuns, CodeFault, CodeTable, FillOrder, Memory, ModeCode, Modes, Pair,
+    BitSink, BitSource, BlackRuns, CodeFault, CodeTable, FillOrder, Memory, ModeCode, Modes, RunPair,
     PendingBits, SHORT_RUN, WhiteRuns, put_mode, put_run, read_code, reverse_bits,
 };
 use kit_std::alloc::Global;
@@ -92,7 +92,7 @@ fn pair(
     total: &str,
     width: &str,
     bits: &str,
-    read: impl FnOnce(&mut BitSource, u32, u32) -> Option<Pair>,
+    read: impl FnOnce(&mut BitSource, u32, u32) -> Option<RunPair>,
 ) -> Result<String, WrongLine> {
     let total = words::number(total)?;
     let width = words::number(width)?;
@@ -139,8 +139,8 @@ fn looked_up_mode(bits: &str) -> Result<String, WrongLine> {
     let bytes = words::bytes(bits)?;
     let mut source = BitSource::new(&bytes, FillOrder::MsbFirst);
     let mut other = BitSource::new(&bytes, FillOrder::MsbFirst);
-    let answer = format!("{:?} {}", source.mode::<false>(), source.place());
-    let other_answer = format!("{:?} {}", other.mode::<true>(), other.place());
+    let answer = format!("{:?} {}", source.try_read_mode::<false>(), source.place());
+    let other_answer = format!("{:?} {}", other.try_read_mode::<true>(), other.place());
     if answer == other_answer {
         Ok(answer)
     } else {
@@ -153,10 +153,10 @@ fn looked_up_mode(bits: &str) -> Result<String, WrongLine> {
 fn verticals(bits: &str) -> Result<String, WrongLine> {
     let bytes = words::bytes(bits)?;
     let mut source = BitSource::new(&bytes, FillOrder::MsbFirst);
-    match source.verticals() {
+    match source.try_read_verticals() {
         Some(found) => {
             let place = source.place();
-            Ok(format!("{} {:?} {place}", found.count, found.raises))
+            Ok(format!("{} {:?} {place}", found.count, found.biased_offsets))
         }
         None => Ok(format!("none {}", source.place())),
     }
@@ -171,7 +171,7 @@ fn skip_ones(bits: &str, most: &str) -> Result<String, WrongLine> {
     if most > 32 {
         return Err(WrongLine::OutOfLimits);
     }
-    let _mode = source.mode::<false>();
+    let _mode = source.try_read_mode::<false>();
     let ones = source.ones();
     let count = source.skip_ones(most);
     Ok(format!("{ones} {count} {}", source.place()))

@@ -128,7 +128,7 @@ fn part(salvaged: Salvaged, row: &Row) -> Result<String, WrongLine> {
     Ok(match salvaged {
         Salvaged::Found => text::runs(row)?,
         Salvaged::Lost { fault, rows } => format!("lost:{rows}:{fault:?}"),
-        Salvaged::Unended { rows } => format!("unended:{rows}"),
+        Salvaged::Unterminated { rows } => format!("unended:{rows}"),
     })
 }
 
