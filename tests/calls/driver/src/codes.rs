@@ -3,8 +3,8 @@
 use crate::table::WrongLine;
 use crate::{text, words};
 use fax_bits::{
-    BitSink, BitSource, BlackRuns, CodeFault, CodeTable, FillOrder, Memory, ModeCode, Modes, RunPair,
-    PendingBits, SHORT_RUN, WhiteRuns, put_mode, put_run, read_code, reverse_bits,
+    put_mode, put_run, read_code, reverse_bits, BitSink, BitSource, BlackRuns, CodeFault,
+    CodeTable, FillOrder, Memory, ModeCode, Modes, PendingBits, RunPair, WhiteRuns, SHORT_RUN,
 };
 use kit_std::alloc::Global;
 
@@ -15,9 +15,7 @@ pub fn answer(words: &[&str]) -> Result<Option<String>, WrongLine> {
         ["find", table, bits] => found(table, bits)?,
         ["pairs", skip, bits, most] => pairs(skip, bits, most)?,
         ["try_read_run_pair", total, width, bits] => try_read_run_pair(total, width, bits)?,
-        ["try_read_horizontal", total, width, bits] => {
-            try_read_horizontal(total, width, bits)?
-        }
+        ["try_read_horizontal", total, width, bits] => try_read_horizontal(total, width, bits)?,
         ["try_read_run", colour, bits, most] => try_read_run(colour, bits, most)?,
         ["mode", bits] => looked_up_mode(bits)?,
         ["verticals", bits] => verticals(bits)?,
@@ -156,7 +154,10 @@ fn verticals(bits: &str) -> Result<String, WrongLine> {
     match source.try_read_verticals() {
         Some(found) => {
             let place = source.place();
-            Ok(format!("{} {:?} {place}", found.count, found.biased_offsets))
+            Ok(format!(
+                "{} {:?} {place}",
+                found.count, found.biased_offsets
+            ))
         }
         None => Ok(format!("none {}", source.place())),
     }
