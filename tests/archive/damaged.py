@@ -158,38 +158,33 @@ def hurt(table: str, way: str) -> None:
         base.commit()
 
 
-def unreadable(room: Room, *_given: object) -> None:
-    """Where the names of tables, or what makes them, are no text any more, this is damage like any other."""
-    place = room("damaged-schema")
+def found_at_each(room: Room, name: str, pattern: bytes, after: int, bit: int) -> int:
+    """Turns one bit at each place where a table has these bytes, one at a time: each is found. Answers how many."""
+    place = room(name)
     made(place)
     with open(f"{place}/t.sqlite", "rb") as file:
         whole = file.read()
-    found = [match.start() for match in re.finditer(rb"CREATE TABLE|tablefaxes", whole)]
-    room.claim("the tables are named", len(found) > 3)
-    for at in found:
+    places = [match.start() + after for match in re.finditer(pattern, whole)]
+    for at in places:
         data = bytearray(whole)
-        data[at + 7] ^= 0x80
+        data[at] ^= bit
         with open(f"{place}/copy.sqlite", "wb") as file:
             file.write(data)
         status, _, error = room.run("table", f"{place}/copy.sqlite", "--csv")
-        room.claim(f"byte {at + 7}: {error}", (status, "copy.sqlite is damaged: " in error), (3, True))
+        room.claim(f"{name}, byte {at}: {error}", (status, "copy.sqlite is damaged: " in error), (3, True))
+    return len(places)
+
+
+def unreadable(room: Room, *_given: object) -> None:
+    """Where the names of tables, or what makes them, are no text any more, this is damage like any other."""
+    count = found_at_each(room, "damaged-schema", rb"CREATE TABLE|tablefaxes", 7, 0x80)
+    room.claim("the tables are named", count > 3)
 
 
 def other_paths(room: Room, *_given: object) -> None:
-    """Where one bit of a path turns into another fax's path, in a table or in its index alone, the row is found."""
-    place = room("damaged-path")
-    made(place)
-    with open(f"{place}/t.sqlite", "rb") as file:
-        whole = file.read()
-    found = [match.start() for match in re.finditer(rb"20\.tif", whole)]
-    room.claim("the path stands in four tables and their indexes", len(found) >= 8)
-    for at in found:
-        data = bytearray(whole)
-        data[at + 1] ^= 0x08
-        with open(f"{place}/copy.sqlite", "wb") as file:
-            file.write(data)
-        status, _, error = room.run("table", f"{place}/copy.sqlite", "--csv")
-        room.claim(f"20.tif as 28.tif at byte {at}: {error}", (status, "copy.sqlite is damaged: " in error), (3, True))
+    """Where one bit turns the path 20.tif into 28.tif, in a table or in its index alone, the row is found."""
+    count = found_at_each(room, "damaged-path", rb"20\.tif", 1, 0x08)
+    room.claim("the path stands in four tables and their indexes", count >= 8)
 
 
 PARTS: list[Part] = [believed, one_value, renewed, unreadable, other_paths]
