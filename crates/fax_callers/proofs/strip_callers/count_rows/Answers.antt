@@ -34,7 +34,7 @@ pub returns-in-Err : goal.returns-in-Err
 returns-in-Err c =
     let so_far = c.loop-count.invariant in
     elim c.in-Err.ensures [
-      | inl again ↦ absurd (cc (so_far.0, again.final_end))
+      | inl again ↦ absurd (cc (so_far.0, again.told))
       | inr meets ↦ (
         so_far.3,
         so_far.4,
