@@ -132,6 +132,32 @@ entry_inside endian file offset (suc n) tag found inside is = grind (
       tag,
 )
 
+-- the first entry of a tag among `count` entries at `start`, from the k-th on, which is this one
+module _ (endian : Endian) (file : List ℕ) (start count k tag : ℕ) (entry : Entry) (within : k < count)
+    (is : entry ≡ entry_at endian file (start + 12 * k)) where
+  from_here : entries_at endian file (start + 12 * k) (count - k)
+      ≡ entry ∷ entries_at endian file (start + 12 * (k + 1)) (count - (k + 1))
+  unfolding entries_at
+  from_here =
+      let n : count - k ≡ suc (count - (k + 1)) = omega arith in
+      let next : start + 12 * k + 12 ≡ start + 12 * (k + 1) = omega arith in
+      rw (n, next, is) refl
+
+  pub first_here : entry.tag ≡ tag → field (entries_at endian file (start + 12 * k) (count - k)) tag ≡ Some entry
+  first_here hit = rw (from_here, eq-eqb _ _ hit) refl
+
+  pub first_later : entry.tag ≢ tag → field (entries_at endian file (start + 12 * k) (count - k)) tag
+      ≡ field (entries_at endian file (start + 12 * (k + 1)) (count - (k + 1))) tag
+  first_later miss = rw (from_here, ne_eqb _ _ miss) refl
+
+-- among no more entries there is none
+pub first_nowhere : (endian : Endian) (file : List ℕ) (offset count k tag : ℕ) → count ≤ k
+    → field (entries_at endian file offset (count - k)) tag ≡ None
+unfolding entries_at
+first_nowhere endian file offset count k tag end =
+    let n : count - k ≡ zero = omega arith in
+    rw n refl
+
 -- after the last entry there is none
 pub none_left : (endian : Endian) (file : List ℕ) (offset count : ℕ) (first : List (Option Entry)) → AreFirst [] first
     → AreFirst (entries_at endian file offset (count - count)) first

@@ -1,6 +1,7 @@
 pub mod BytesInside
 pub mod Directory
 pub mod Page
+pub mod BadRows
 pub mod FaultNames
 pub mod Layout
 pub mod Pbm

@@ -1,6 +1,6 @@
 //! The directory of a page.
 
-ghost use Rattle.std.specs.Prelude.{◌≡◌, ◌+◌, ◌*◌, ◌<◌, ◌≤◌, length, Ok, Err, IfOk, IfErr};
+ghost use Rattle.std.specs.Prelude.{◌≡◌, ◌+◌, ◌*◌, ◌<◌, ◌≤◌, length, Ok, Err, IfOk, IfErr, IfSome};
 ghost use Rattle.fax_files.specs.Directory as Spec;
 ghost use Rattle.fax_files.specs.code.Entries.{entry_count as count_of};
 ghost use Rattle.fax_files.specs.code.Fields as Code;
@@ -9,6 +9,7 @@ ghost use Rattle.fax_files.specs.code.Fields.{AreFieldsOf};
 ghost use Rattle.fax_files.specs.views.Fields.{entries_of};
 ghost use Rattle.fax_files.specs.views.Tiff.{form_of};
 
+use crate::entries::Entry;
 use crate::fields::{Fields, FirstEntries};
 use crate::numbers::File;
 use crate::page::read_page;
@@ -93,6 +94,22 @@ impl<'a> Directory<'a> {
             first.see(file.entry_at(self.offset + 2 + 12 * k as usize));
         }
         first
+    }
+
+    /// The first entry of a tag, also of one that is not in `TAGS`. It goes from the first entry on.
+    pub(crate) fn first_of(&self, tag: u16) -> Option<Entry>
+        ensures first { result ≡ Spec.field (entries_of self.now) tag }
+        ensures inside { IfSome result (λ entry. entry.offset + 4 ≤ length self.now.file) }
+    {
+        let file = self.file();
+        let count = entry_count(&file, self.offset);
+        for k in 0..count {
+            let entry = file.entry_at(self.offset + 2 + 12 * k as usize);
+            if entry.tag() == tag {
+                return Some(entry);
+            }
+        }
+        None
     }
 
     /// The offset of the next directory, in bytes, or 0 at the chain's end.

@@ -4,6 +4,7 @@
 ghost use Rattle.std.specs.Prelude.{◌≡◌};
 ghost use Rattle.fax_files.specs.FaultNames as Names;
 
+mod bad_rows;
 mod chain;
 mod directory;
 mod entries;
@@ -19,6 +20,7 @@ mod tiff_writer;
 mod totals;
 mod written;
 
+pub use bad_rows::Received;
 pub use chain::Chain;
 pub use directory::Directory;
 pub use fax_page;

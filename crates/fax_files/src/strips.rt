@@ -51,6 +51,13 @@ impl<'a> Strips<'a> {
         }
     }
 
+    /// The directory of the page.
+    pub fn directory(&self) -> Directory<'a>
+        ensures { result ≡ self.now.directory }
+    {
+        self.directory.fork()
+    }
+
     /// The number of strips.
     pub fn count(&self) -> u32
         ensures { result ≡ self.now.count }

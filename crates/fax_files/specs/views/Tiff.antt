@@ -6,6 +6,7 @@ use Rattle.fax_files.specs.declared.FileFault.{FileFault}
 use Rattle.fax_files.specs.declared.PageForm.{PageForm}
 use Rattle.fax_files.specs.BytesInside.{bytes_inside}
 use Rattle.fax_files.specs.Page.{page, strip_bytes}
+use Rattle.fax_files.specs.BadRows.{Received, received}
 
 -- a file and what its header says
 pub record TiffFile : Type 0 where
@@ -37,6 +38,10 @@ bytes_of directory s = strip_bytes directory.endian directory.file directory.off
 -- the bytes of strip s of the page with this directory that lie in the file
 abbrev pub inside_of : TiffDirectory → ℕ → List ℕ
 inside_of directory s = bytes_inside directory.endian directory.file directory.offset s
+
+-- what the receiver of the page with this directory counted of bad rows
+abbrev pub received_of : TiffDirectory → Received
+received_of directory = received directory.endian directory.file directory.offset
 
 -- the strips of a page: its directory, and how many there are
 pub record PageStrips : Type 0 where
