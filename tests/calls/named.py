@@ -132,5 +132,14 @@ one_strip = small(
     (257, 3, 1, 2), (259, 3, 1, 4), (262, 3, 1, 1), (273, 4, 1, 8), (278, 3, 1, 2), (279, 4, 1, 4),
 )  # fmt: skip
 
+# One page of one MMR row, white, of which the receiver counted 3 bad rows and put others in their places; 2 of them came
+# one after the other. Its entries stand from 12 on, the one of 326 at 84, of 327 at 96, of 328 at 108, and the file ends
+# at 124.
+counted = small(
+    bytes.fromhex("8000"),
+    (257, 3, 1, 1), (259, 3, 1, 4), (262, 3, 1, 0), (273, 3, 1, 8), (279, 3, 1, 1), (326, 4, 1, 3), (327, 3, 1, 1),
+    (328, 3, 1, 2),
+)  # fmt: skip
+
 # Two images: 9 pels by 3 rows, and 8 pels by 1 row.
 images = b"P4\n9 3\n\x18\x00\xFF\x80\x0F\x00P4\n8 1\n\x18"

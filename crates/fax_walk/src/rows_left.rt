@@ -10,7 +10,7 @@ use crate::salvage_rows::{SalvagedPart, part_of};
 use crate::shown_rows::ShownRows;
 use crate::{Cursor, End};
 use fax_bits::Memory;
-use fax_files::PageForm;
+use fax_files::{PageForm, Received};
 use fax_page::{PlaceFault, ReferenceRow, RowsEnd, SalvageReader, StripForm, UncountedSalvage};
 use fax_rows::Row;
 use std::alloc::Global;
@@ -70,6 +70,7 @@ impl<'a> Model for DamagedPage<'a> {
 }
 
 impl<'a> DamagedPage<'a> {
+    ghost use Rattle.fax_files.specs.BadRows.{received};
     ghost use Rattle.fax_walk.specs.views.RowsFrom.{IsStartedFrom, IsNotStartedFrom};
     ghost use Rattle.fax_walk.specs.views.SalvagedRows.{IsFoundPage, IsRowsStart, of_page};
 
@@ -95,6 +96,14 @@ impl<'a> DamagedPage<'a> {
         ensures limits { IsPageForm result }
     {
         self.upcoming.form
+    }
+
+    /// What its receiver counted of bad rows (RFC 2306, BadFaxLines, CleanFaxData and
+    /// ConsecutiveBadFaxLines). It takes no memory, and no page is refused for these fields.
+    pub fn received(&self) -> Received
+        ensures { result ≡ received self.now.here.endian self.now.file self.now.here.offset }
+    {
+        self.upcoming.strips.directory().received()
     }
 
     /// Before the first of its rows. It takes all the memory that the page needs.

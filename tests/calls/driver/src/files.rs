@@ -2,7 +2,7 @@
 
 use crate::table::WrongLine;
 use crate::{text, words};
-use fax_files::{Cause, FileFault, FillOrder, PageForm, Tiff, TiffWriter};
+use fax_files::{Cause, FileFault, FillOrder, PageForm, Received, Tiff, TiffWriter};
 use kit_std::alloc::Global;
 
 /// Bytes as the libraries take them.
@@ -14,6 +14,7 @@ pub fn answer(words: &[&str]) -> Result<Option<String>, WrongLine> {
         ["directory", file] => directory(file)?,
         ["page", file] => page(file)?,
         ["strip", file] => strip(file)?,
+        ["received", file] => received(file)?,
         ["write_page", page] => written(page)?,
         ["write_pages", first, second, third] => three_written(first, second, third)?,
         ["write_large", count] => large(count)?,
@@ -73,6 +74,20 @@ fn strip(file: &str) -> Result<String, WrongLine> {
     let file = words::bytes(file)?;
     match first_strip(&file) {
         Ok(bytes) => Ok(text::digits(bytes)),
+        Err(fault) => Ok(fault_name(Cause::File(fault))),
+    }
+}
+
+/// What the receiver of the first page counted of bad rows.
+fn first_received(file: &[u8]) -> Result<Received, FileFault> {
+    let tiff = Tiff::read_header(file)?;
+    Ok(tiff.directory(tiff.first())?.received())
+}
+
+fn received(file: &str) -> Result<String, WrongLine> {
+    let file = words::bytes(file)?;
+    match first_received(&file) {
+        Ok(received) => Ok(text::received(&received)),
         Err(fault) => Ok(fault_name(Cause::File(fault))),
     }
 }

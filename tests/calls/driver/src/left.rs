@@ -13,6 +13,7 @@ pub fn answer(words: &[&str]) -> Result<Option<String>, WrongLine> {
     let answer = match *words {
         ["salvage", calls, file] => salvaged(calls, file)?,
         ["left_page", page, file] => left_of_page(page, file)?,
+        ["received_page", page, file] => received(page, file)?,
         ["left_from", page, row, bits, runs, file] => {
             left_from_place(page, row, words::number(bits)?, runs, file)?
         }
@@ -99,6 +100,15 @@ fn left_of_page(page: &str, file: &str) -> Result<String, WrongLine> {
     let mut left = found.rows(Global)?;
     let text = parts(&mut left, form.rows.saturating_add(1))?;
     Ok(format!("{}x{} {text}", form.width, form.rows))
+}
+
+/// What the receiver of a page counted of bad rows, by the page's number.
+fn received(page: &str, file: &str) -> Result<String, WrongLine> {
+    let file = words::bytes(file)?;
+    match DamagedPage::at(&file, words::number(page)?) {
+        Ok(found) => Ok(text::received(&found.received())),
+        Err(end) => Ok(format!("{end:?}")),
+    }
 }
 
 /// What is left, part after part, and after each row that is found the bits before the next one, where that

@@ -1,7 +1,7 @@
 //! What answers look like.
 
 use crate::table::WrongLine;
-use fax_files::PageForm;
+use fax_files::{PageForm, Received};
 use fax_rows::{BitSink, Row};
 use kit_std::alloc::Global;
 
@@ -57,4 +57,10 @@ pub fn form(form: &PageForm) -> String {
     let aligned = if form.aligned { " aligned" } else { "" };
     let exchanged = if form.exchanged { " exchanged" } else { "" };
     format!("{size} {strips} {inch}{aligned}{exchanged}")
+}
+
+/// What the receiver of a page counted of bad rows: three numbers, of which one that the page has not is `-`.
+pub fn received(received: &Received) -> String {
+    let found = [received.bad_rows, received.clean, received.consecutive];
+    found.map(|number| numbers(number.as_slice())).join(" ")
 }
