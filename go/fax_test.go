@@ -111,6 +111,41 @@ func TestWritten(t *testing.T) {
 	}
 }
 
+// A page of one white row in MMR, of which the receiver counted three bad rows, and two of them one after the other.
+func counted() []byte {
+	file := []byte("II*\x00\x0a\x00\x00\x00\x80\x00")
+	fields := [][3]uint32{{256, 3, 8}, {257, 3, 1}, {259, 3, 4}, {262, 3, 0}, {273, 3, 8}, {279, 3, 1},
+		{326, 4, 3}, {328, 3, 2}}
+	file = append(file, byte(len(fields)), 0)
+	for _, it := range fields {
+		file = append(file, byte(it[0]), byte(it[0]>>8), byte(it[1]), 0, 1, 0, 0, 0, byte(it[2]), 0, 0, 0)
+	}
+	return append(file, 0, 0, 0, 0)
+}
+
+// What the receiver of a page counted of bad rows is told, and of a page that is not there nothing.
+func TestReceived(t *testing.T) {
+	fax := faxpages.New(counted())
+	received, err := fax.Received(0)
+	if err != nil || received != (faxpages.Received{BadRows: 3, Clean: -1, Consecutive: 2}) {
+		t.Fatal(received, err)
+	}
+	none := faxpages.Received{BadRows: -1, Clean: -1, Consecutive: -1}
+	for _, page := range []int{-1, 1, 2} {
+		if received, err = fax.Received(page); !errors.Is(err, faxpages.ErrOutside) || received != none {
+			t.Fatal(page, received, err)
+		}
+	}
+	whole, _ := faxpages.Open("../samples/three-mmr-rows.tif")
+	if received, err = whole.Received(0); err != nil || received != none {
+		t.Fatal(received, err)
+	}
+	var fault *faxpages.Fault
+	if _, err = faxpages.New(nil).Received(0); !errors.As(err, &fault) || fault.Number != faxpages.ShortHeader {
+		t.Fatal(err)
+	}
+}
+
 // What is out of range is an error.
 func TestRefused(t *testing.T) {
 	fax := faxpages.New(nil)

@@ -109,3 +109,40 @@ func (f Fax) Salvage(page int) (*Salvaged, error) {
 	})
 	return made, errorOf(status, &told.fault)
 }
+
+// Received is what the receiver of a page counted of bad rows, those that it could not read, by three fields of TIFF-F
+// (RFC 2306). A number is -1 where the page has no such field, or one that is neither SHORT nor LONG, or whose first value
+// lies outside the file. Receivers need not count, and may count too few.
+type Received struct {
+	BadRows     int // how many rows were bad (326, BadFaxLines)
+	Clean       int // 0: none was bad; 1: some were, and others stand in their places; 2: bad rows stand in the data (327)
+	Consecutive int // how many bad rows came one after another, at most (328, ConsecutiveBadFaxLines)
+}
+
+// Received is what the receiver of a page counted of bad rows. No row is looked at, and these fields are never a fault.
+func (f Fax) Received(page int) (Received, error) {
+	none := Received{-1, -1, -1}
+	if page < 0 {
+		return none, ErrOutside
+	}
+	var its C.struct_faxpages_received
+	file, length := bytesOf(f.file)
+	status := C.faxpages_received(file, length, C.uint32_t(page), &its)
+	if status == C.FAXPAGES_END {
+		return none, ErrOutside
+	}
+	if status != C.FAXPAGES_DONE {
+		return none, errorOf(status, &its.fault)
+	}
+	return Received{
+		numberOf(its.has_bad_rows, its.bad_rows), numberOf(its.has_clean, its.clean),
+		numberOf(its.has_consecutive, its.consecutive)}, nil
+}
+
+// The number, or -1 where there is none.
+func numberOf(has, number C.uint32_t) int {
+	if has == 0 {
+		return -1
+	}
+	return int(number)
+}

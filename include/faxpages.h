@@ -322,6 +322,29 @@ uint32_t faxpages_salvage_from(const uint8_t *file, size_t file_len, struct faxp
                                size_t stride, struct faxpages_lost *lost, size_t lost_room,
                                struct faxpages_told *told);
 
+/* What the receiver of a page counted of bad rows, those that it could not read, by three fields of
+ * TIFF-F (RFC 2306): each number, and before it 1 if the page has it, else 0. A number that the
+ * page has not is 0: there is no such field, or it is neither SHORT nor LONG, or its first value
+ * lies outside the file. If two entries have the tag, the first one counts. */
+struct faxpages_received {
+    uint32_t has_bad_rows;
+    uint32_t bad_rows; /* 326, BadFaxLines: how many rows were bad */
+    uint32_t has_clean;
+    uint32_t clean; /* 327, CleanFaxData: 0 if no row was bad; 1 if some were, and the receiver put
+                     * other rows in their places; 2 if bad rows stand in the data */
+    uint32_t has_consecutive;
+    uint32_t consecutive; /* 328, ConsecutiveBadFaxLines: how many bad rows came one after another,
+                           * at most */
+    struct faxpages_fault fault;
+};
+
+/* Writes what the receiver of a page counted of bad rows. It looks at no row, and these fields are
+ * never a fault. DONE; or END, if the file has exactly `page` pages, OUTSIDE, if it has fewer, or
+ * FAULT, at a fault of the header, a directory or another field: then all numbers are 0. Receivers
+ * need not count, and may count too few: a page that says of no bad row may have some. */
+uint32_t faxpages_received(const uint8_t *file, size_t file_len, uint32_t page,
+                           struct faxpages_received *received);
+
 /* The form of a strip of rows with no file around it, as a fax is on the line, or in a PDF. */
 struct faxpages_strip {
     uint32_t width;   /* pels of a row, 1 to 65535 */

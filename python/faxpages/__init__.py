@@ -36,6 +36,11 @@ is white in the raster, grey in the image, and named:
         print("rows", stretch.first, "to", stretch.last, "are lost:", stretch.name)
     left.image().save("page.png")
 
+What the receiver of a page counted of bad rows stands in fields of their own, where it wrote them:
+
+    if page.received.bad_rows:
+        print(page.received.bad_rows, "rows of page", page.number, "were bad when it was received")
+
 Files are written from pages, rasters, images, arrays or rows, and T.4 or T.6 data with no file around it is read, at
 once or as it comes, coded and checked:
 
@@ -76,6 +81,7 @@ from ._fax import Fax, Page, open
 from ._pages import Writable
 from ._plugin import register
 from ._raster import Raster
+from ._received import Received
 from ._report import Note, Report, check
 from ._rows import Row
 from ._salvaged import Salvaged, Stretch
@@ -92,8 +98,8 @@ __version__ = "1.12.0"
 __all__ = [
     "open", "check", "convert", "write", "encode", "strip", "check_strip", "encode_strip", "salvage_strip", "register",
     "version",
-    "Source", "Writable", "Fax", "Page", "Row", "Raster", "Cursor", "Note", "Report", "Salvaged", "Stretch",
-    "StripReader", "StripReport",
+    "Source", "Writable", "Fax", "Page", "Row", "Raster", "Cursor", "Note", "Received", "Report", "Salvaged",
+    "Stretch", "StripReader", "StripReport",
     "FaxError", "Fault", "FileFault", "StripFault", "OutsideError", "NotACursorError", "ConversionError", "PbmFault",
     "UnknownInput", "OutputTooLarge",
     "BadCode", "BadField", "ByteOrder", "DataEnds", "DirectoryLoop", "DirectoryOutside", "EndMarker", "Extension",

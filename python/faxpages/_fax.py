@@ -17,6 +17,7 @@ from ._cursor import Cursor, a_cursor
 from ._directory import Directories, first_of
 from ._image import Image
 from ._raster import Raster, dpi_of
+from ._received import Received, received
 from ._report import Report, check
 from ._rows import ROWS, Ahead, Row, read
 from ._salvaged import Salvaged, Stretch, salvage_page
@@ -142,6 +143,16 @@ class Page:
         True
         """
         return self.fax._gives_resolution(self.number)
+
+    @property
+    def received(self) -> Received:
+        """What the receiver of the page counted of bad rows. The file's directories are followed up to the page each time
+        that it is asked for; no row is looked at.
+
+        >>> faxpages.open("samples/received/over-a-noisy-line.tif").page(0).received.bad_rows is None
+        True
+        """
+        return received(self.fax._data, self.number)
 
     def packed(self, partial: bool = False) -> bytes:
         """The bytes of all rows, one after another, each (width + 7) // 8 long.

@@ -75,6 +75,18 @@ class Lost(ctypes.Structure):
     _fields_ = [("row", U32), ("rows", U32), ("fault", U32)]
 
 
+class Received(ctypes.Structure):
+    has_bad_rows: int
+    bad_rows: int
+    has_clean: int
+    clean: int
+    has_consecutive: int
+    consecutive: int
+    fault: Fault
+    _fields_ = [(name, U32) for name in (
+        "has_bad_rows", "bad_rows", "has_clean", "clean", "has_consecutive", "consecutive")] + [("fault", Fault)]
+
+
 class Note(ctypes.Structure):
     page: int
     strip: int
@@ -142,6 +154,7 @@ CALLS = {
         U32, FILE + [ctypes.POINTER(Place)] + NUMBERS * 2 + [SIZE] + NUMBERS + [ctypes.POINTER(Told)]),
     "faxpages_salvage_strip": (
         U32, FILE + [ctypes.POINTER(Strip)] + NUMBERS + [SIZE] + NUMBERS + [ctypes.POINTER(Told)]),
+    "faxpages_received": (U32, FILE + [U32, ctypes.POINTER(Received)]),
     "faxpages_check": (U32, FILE + [ctypes.c_void_p, SIZE, ctypes.POINTER(Report)]),
     "faxpages_convert": (U32, FILE + [ctypes.POINTER(Options), ctypes.c_void_p, SIZE, ctypes.POINTER(Converted)]),
     "faxpages_strip_rows": (

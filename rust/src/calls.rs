@@ -28,6 +28,15 @@ pub(crate) const TOLD: FaxTold = FaxTold { count: 0, used: 0, page: 0, row: 0, f
 pub(crate) const ROW: FaxRow = FaxRow { at: 0, len: 0, page: 0, row: 0, width: 0 };
 pub(crate) const PLACE: FaxPlace = FaxPlace { page: 0, row: 0, bits: 0, runs: 0 };
 pub(crate) const LOST: FaxLost = FaxLost { row: 0, rows: 0, fault: 0 };
+pub(crate) const RECEIVED: FaxReceived = FaxReceived {
+    has_bad_rows: 0,
+    bad_rows: 0,
+    has_clean: 0,
+    clean: 0,
+    has_consecutive: 0,
+    consecutive: 0,
+    fault: NO_FAULT,
+};
 pub(crate) const NOTE: FaxNote = FaxNote { page: 0, strip: 0, kind: 0 };
 pub(crate) const REPORT: FaxReport = FaxReport { pages: 0, rows: 0, notes: 0, fault: NO_FAULT };
 pub(crate) const CONVERTED: FaxConverted = FaxConverted { len: 0, image: 0, fault: NO_FAULT };

@@ -188,6 +188,24 @@ impl Form {
     }
 }
 
+/// What the receiver of a page counted of bad rows, those that it could not read, by three fields of TIFF-F (RFC 2306).
+/// A number is none where the page has no such field, or one that is neither SHORT nor LONG, or whose first value lies
+/// outside the file. Receivers need not count, and may count too few.
+#[doc(alias = "BadFaxLines")]
+#[doc(alias = "CleanFaxData")]
+#[doc(alias = "ConsecutiveBadFaxLines")]
+#[derive(Clone, Copy, Debug, Default, PartialEq, Eq, Hash)]
+#[non_exhaustive]
+pub struct Received {
+    /// How many rows were bad (326, BadFaxLines).
+    pub bad_rows: Option<u32>,
+    /// What became of the bad rows (327, CleanFaxData): 0 where no row was bad; 1 where some were, and the receiver put
+    /// other rows in their places; 2 where bad rows stand in the data.
+    pub clean: Option<u32>,
+    /// How many bad rows came one after another, at most (328, ConsecutiveBadFaxLines).
+    pub consecutive: Option<u32>,
+}
+
 /// What may trouble other readers of a page, or of a strip of it.
 #[derive(Clone, Copy, Debug, PartialEq, Eq, Hash)]
 #[non_exhaustive]
@@ -444,6 +462,33 @@ impl<'a> Fax<'a> {
     /// ```
     pub fn salvaged_rows(&self, page: u32) -> Result<SalvagedRows<'_>, Error> {
         SalvagedRows::new(self.file, page, self.form(page)?.width)
+    }
+
+    /// What the receiver of a page counted of bad rows. No row is looked at, and these fields are never a fault.
+    ///
+    /// # Errors
+    ///
+    /// As [`Fax::form`].
+    ///
+    /// ```
+    /// # let mut writer = faxpages::Writer::new(1)?;
+    /// # writer.add(&faxpages::Form::new(8, 2, faxpages::Coding::Mmr), None, &[0x18, 0xFC], 1)?;
+    /// # let file = writer.finish()?;
+    /// let received = faxpages::Fax::new(&file).received(0)?;
+    /// assert_eq!((received.bad_rows, received.clean, received.consecutive), (None, None, None));
+    /// # Ok::<(), faxpages::Error>(())
+    /// ```
+    pub fn received(&self, page: u32) -> Result<Received, Error> {
+        let mut its = calls::RECEIVED;
+        match calls::faxpages_received(self.file, page, &mut its) {
+            calls::DONE => Ok(Received {
+                bad_rows: (its.has_bad_rows != 0).then_some(its.bad_rows),
+                clean: (its.has_clean != 0).then_some(its.clean),
+                consecutive: (its.has_consecutive != 0).then_some(its.consecutive),
+            }),
+            calls::END => Err(Error::Outside),
+            status => Err(refused(status, &its.fault)),
+        }
     }
 
     /// All pages, each whole. They end at the first that is not, with its error.

@@ -1,8 +1,8 @@
 //! What users of a library expect of its types.
 
 use faxpages::{
-    Coding, Cursor, Error, Fault, FillOrder, Filled, Form, Invalid, Left, Note, NoteKind, Options, Page, PbmFault, Report, Row,
-    RowChanges, RowRuns, Salvaged, Stretch, StripForm, StripReport, Target, Unit, Writer,
+    Coding, Cursor, Error, Fault, FillOrder, Filled, Form, Invalid, Left, Note, NoteKind, Options, Page, PbmFault, Received,
+    Report, Row, RowChanges, RowRuns, Salvaged, Stretch, StripForm, StripReport, Target, Unit, Writer,
 };
 use std::fmt::Debug;
 use std::hash::Hash;
@@ -15,10 +15,10 @@ fn data_have_the_usual_traits() {
     }
     let of_pages = data::<Form>() + data::<Page>() + data::<Filled>() + data::<Report>() + data::<Note>() + data::<NoteKind>();
     let of_rows = data::<Row>() + data::<RowRuns>() + data::<RowChanges>() + data::<Cursor>() + data::<Left>();
-    let of_strips = data::<StripForm>() + data::<StripReport>() + data::<Salvaged>() + data::<Stretch>();
+    let of_strips = data::<StripForm>() + data::<StripReport>() + data::<Salvaged>() + data::<Stretch>() + data::<Received>();
     let words = data::<Coding>() + data::<FillOrder>() + data::<Target>() + data::<Unit>() + data::<Options>();
     let faults = data::<Error>() + data::<Fault>() + data::<PbmFault>() + data::<Invalid>();
-    assert_eq!(of_pages + of_rows + of_strips + words + faults, 24);
+    assert_eq!(of_pages + of_rows + of_strips + words + faults, 25);
 }
 
 /// MMR and MH have no k, and in MR it is 4 where nothing is said.

@@ -129,6 +129,16 @@ static void read_page(size_t len, uint32_t page) {
     add_end(status, &told.fault);
 }
 
+/* What the receiver of a page counted of bad rows. */
+static void add_received(size_t len, uint32_t page) {
+    struct faxpages_received its;
+    uint32_t status = faxpages_received(file, len, page, &its), none = 4294967295u;
+    add(its.has_bad_rows ? its.bad_rows : none);
+    add(its.has_clean ? its.clean : none);
+    add(its.has_consecutive ? its.consecutive : none);
+    add_end(status == FAXPAGES_END ? FAXPAGES_OUTSIDE : status, &its.fault);
+}
+
 static void check(size_t len) {
     static struct faxpages_note notes[NOTES];
     struct faxpages_report report;
@@ -182,7 +192,7 @@ int main(void) {
         uint32_t status = read_rows(len);
         read_runs(len);
         read_forms(len);
-        for (uint32_t page = 0; page < 3; page++) read_page(len, page);
+        for (uint32_t page = 0; page < 3; page++) read_page(len, page), add_received(len, page);
         check(len);
         convert(len, number);
         read_strip(len, number);

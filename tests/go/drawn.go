@@ -113,6 +113,9 @@ func addPages(fax faxpages.Fax) {
 		}
 		addError(err)
 		addSalvaged(fax.Salvage(page))
+		counted, err := fax.Received(page)
+		add(counted.BadRows, counted.Clean, counted.Consecutive)
+		addError(err)
 	}
 	report, err := fax.Check()
 	add(report.Pages, report.Rows, len(report.Notes))

@@ -39,6 +39,7 @@ def values(folder: str) -> Iterator[tuple[str, Any]]:
     yield "Raster", fax.page(1).raster()
     yield "Raster of a damaged page", fax.page(3).raster(partial=True)
     yield "StripReport", faxpages.check_strip(b"\xff", 8, rows=1)
+    yield "Received", fax.page(1).received
     yield "Cursor", faxpages.Cursor(3, 4)
     yield "Cursor inside a strip", fax.read_rows(faxpages.Cursor(1, 0), 2)[1]
     yield "Report", fax.check()

@@ -98,6 +98,7 @@ static void *calls(void *unused) {
     static struct faxpages_form forms[64];
     static struct faxpages_told told;
     static struct faxpages_report report;
+    static struct faxpages_received received;
     static struct faxpages_converted converted;
     struct faxpages_options options = {3, 1, 4, 0, 0};
     faxpages_forms(file, len, 0, forms, 64, &told);
@@ -107,6 +108,7 @@ static void *calls(void *unused) {
     pages_and_strips();
     read_texts();
     faxpages_check(file, len, notes, 64, &report);
+    faxpages_received(file, len, 0, &received);
     for (options.target = 0; options.target < 4; options.target++)
         faxpages_convert(file, len, &options, out, sizeof out, &converted);
     return unused;

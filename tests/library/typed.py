@@ -44,6 +44,10 @@ def of_page(page: faxpages.Page) -> Tuple[int, ...]:
     packed: bytes = page.packed()
     whole = packed == b"".join(row.packed for row in rows) and [row.page for row in rows] == len(page) * [page.number]
     fax: faxpages.Fax = page.fax
+    received: faxpages.Received = page.received
+    counted: List[Optional[int]] = [received.bad_rows, received.clean, received.consecutive]
+    if counted != [None, None, None]:
+        raise AssertionError("another receiver")
     return (page.number, page.width, page.rows, page.order, page.rows_per_strip, page.strips, page.unit, len(coding),
             sum(flags), int(x + y), int(whole), sum(row.number + row.width + len(row) for row in rows),
             sum(run for row in rows for run in row.runs()), len(fax.convert("mh")))

@@ -5,6 +5,7 @@ pub mod Changes
 pub mod Forms
 pub mod Raster
 pub mod Told
+pub mod Received
 pub mod Checked
 pub mod ConversionTold
 pub mod views

@@ -52,7 +52,7 @@ impl Stop {
     }
 
     /// The number that a call returns.
-    fn status(self) -> u32
+    pub(crate) fn status(self) -> u32
         ensures { result ≡ status_of self }
     {
         match self {

@@ -116,6 +116,12 @@ mod c {
             lost_len: usize,
             told: *mut FaxTold,
         ) -> u32;
+        pub fn faxpages_received(
+            file: *const u8,
+            file_len: usize,
+            page: u32,
+            received: *mut FaxReceived,
+        ) -> u32;
         pub fn faxpages_rows_from(
             file: *const u8,
             file_len: usize,
@@ -281,6 +287,24 @@ pub struct FaxLost {
     pub rows: u32,
     /// The number of the fault for which the first of them is lost.
     pub fault: u32,
+}
+
+/// What the receiver of a page counted of bad rows, those that it could not read: each number, and
+/// before it whether the page has it. A number that it has not is 0.
+#[repr(C)]
+#[derive(Clone, Copy)]
+pub struct FaxReceived {
+    /// 1 where the page has field 326, BadFaxLines, else 0; and how many rows were bad.
+    pub has_bad_rows: u32,
+    pub bad_rows: u32,
+    /// 1 where the page has field 327, CleanFaxData, else 0; and what became of the bad rows.
+    pub has_clean: u32,
+    pub clean: u32,
+    /// 1 where the page has field 328, ConsecutiveBadFaxLines, else 0; and how many bad rows came
+    /// one after another at most.
+    pub has_consecutive: u32,
+    pub consecutive: u32,
+    pub fault: FaxFault,
 }
 
 /// Where to go on: a cursor; and where `runs` is not 0 a place inside a strip, after so many bits
@@ -608,6 +632,14 @@ pub fn faxpages_salvage_strip(
             lost.len(),
             told,
         )
+    }
+}
+
+/// As the header says.
+pub fn faxpages_received(file: &[u8], page: u32, received: &mut FaxReceived) -> u32 {
+    // SAFETY: each length is that of the slice of its pointer, and what is written is borrowed alone.
+    unsafe {
+        c::faxpages_received(file.as_ptr(), file.len(), page, received)
     }
 }
 
