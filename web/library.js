@@ -150,6 +150,16 @@ class Library {
         };
     }
 
+    /** What the receiver of a page counted of bad rows: the numbers of fields 326, 327 and 328, or null.
+     * @param {number} page @returns {{ status: number, found: (number | null)[], fault: Fault }} */
+    received(page) {
+        const at = this.room("received", 40);
+        const status = this.calls.faxpages_received(this.file, this.length, page, at);
+        const numbers = this.numbers(at, 6);
+        const found = [0, 2, 4].map((has) => numbers[has] ? numbers[has + 1] : null);
+        return { status, found, fault: this.faultAt(at + 24) };
+    }
+
     /** Converts the file, to raw PBM (0) or TIFF-F in a coding, into memory that is taken for it.
      * @param {number} target */
     convert(target) {

@@ -10,6 +10,7 @@ import os
 import re
 import shutil
 import subprocess
+import sys
 import tempfile
 from typing import Generator
 
@@ -24,6 +25,7 @@ const widths: number[] = faxpages.list(new Uint8Array(0)).pages.map((page) => pa
 const fault: FaxFault | null = faxpages.check(new Uint8Array(0)).fault;
 for (const { bytes } of faxpages.rows(new Uint8Array(0))) bytes.subarray(1);
 for (const { lost } of faxpages.salvage(new Uint8Array(0))) lost.map((it) => it.rows + widths.length);
+export const bad: number | null = faxpages.received(new Uint8Array(0), 0).badRows;
 export const made: Uint8Array = faxpages.convert(new Uint8Array(0), "mmr");
 export const name: string = fault === null ? "" : fault.fault;
 """
@@ -61,6 +63,7 @@ def claims(program: str) -> Generator[Claim, None, None]:
             f"{room}/user/node_modules/faxpages/LICENSE"), get(f"{TOP}/licences/web.txt").partition(b"\n")[2]
         yield from types(f"{room}/user")
         yield from explains(f"{room}/user")
+        yield from receives(f"{room}/user")
         yield from later.in_node(f"{room}/user", run)
         yield from readme_reads(program, f"{room}/user")
         yield from as_the_program(program, f"{room}/user", room)
@@ -80,6 +83,19 @@ def explains(folder: str) -> Generator[Claim, None, None]:
     put(f"{folder}/explains.mjs", "\n".join(['import { FaxFault } from "faxpages";', *lines]).encode())
     yield "npm: faults explain themselves", (len(known) > 20, run(folder, "node", "explains.mjs")), (
         True, (0, "\n".join([*known.values(), "A fault of a later version.", ""])))
+
+
+def receives(folder: str) -> Generator[Claim, None, None]:
+    """What the receivers of drawn pages counted is what the plain reading finds."""
+    drawn = subprocess.run([sys.executable, f"{TOP}/tests/library/receivers.py", "500"], capture_output=True, check=True)
+    put(f"{folder}/receivers", drawn.stdout)
+    shutil.copy(f"{TOP}/tests/web/received-in-node.mjs", folder)
+    pages = [line.split()[1:7] for line in drawn.stdout.decode().splitlines()]
+    there = [numbers for status, _, _, *numbers in pages if status == "0"]
+    found = sum(number != "-" for numbers in there for number in numbers)
+    yield "npm: many receivers counted", len(there) > 500 and found > 1000, True
+    yield "npm: what receivers counted is told", run(folder, "node", "received-in-node.mjs", "receivers"), (
+        0, f"{len(pages)} pages, {len(there)} there, {found} numbers\n")
 
 
 def readme_reads(program: str, folder: str) -> Generator[Claim, None, None]:

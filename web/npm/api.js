@@ -25,6 +25,15 @@
  * @property {number} number 1 to 5, or another one of a later library
  * @property {string} name "Unknown" where a later library has none
  *
+ * @typedef {object} Received what the receiver of a page counted of bad rows, those that it could not read (RFC 2306);
+ *     a number is none where the page has no such field, or one that is neither SHORT nor LONG, or whose first value lies
+ *     outside the file
+ * @property {number | null} badRows how many rows were bad: field 326, BadFaxLines
+ * @property {number | null} clean 0 where no row was bad; 1 where some were, and the receiver put other rows in their
+ *     places; 2 where bad rows stand in the data: field 327, CleanFaxData
+ * @property {number | null} consecutive how many bad rows came one after another, at most: field 328,
+ *     ConsecutiveBadFaxLines
+ *
  * @typedef {object} Lost
  * @property {number} row the first, from 0
  * @property {number} rows how many
@@ -178,6 +187,27 @@ export class Faxpages {
                 name: library.name("note", number) };
         });
         return { pages, rows, notes: told, fault: fault.number ? Faxpages.faultOf(library, fault) : null };
+    }
+
+    /** What the receiver of a page counted of bad rows: no row is looked at, and these fields are never a fault. Another
+     * fault up to the page is thrown, and a RangeError where the file has no such page.
+     * @param {Uint8Array} file @param {number} page from 0 @returns {Received} */
+    received(file, page) {
+        if (!Number.isInteger(page) || page < 0 || page > Library.NO_STRIP) {
+            throw new RangeError("the file has no such page");
+        }
+        const library = this.opened(file);
+        const { status, found: [badRows, clean, consecutive], fault } = library.received(page);
+        if (status === Library.FAULT) {
+            throw Faxpages.faultOf(library, fault);
+        }
+        if (status === Library.END || status === Library.OUTSIDE) {
+            throw new RangeError("the file has no such page");
+        }
+        if (status !== Library.DONE) {
+            throw Library.refusal(status);
+        }
+        return { badRows, clean, consecutive };
     }
 
     /** What is left, page by page, also after pages that are damaged or refused; then the fault that ends the chain of
