@@ -41,8 +41,8 @@
 #include <stdint.h>
 
 /* The version of this header, as text and as a number; faxpages_version tells the library's. */
-#define FAXPAGES_VERSION "1.12.0"
-#define FAXPAGES_VERSION_NUMBER 11200
+#define FAXPAGES_VERSION "1.13.0"
+#define FAXPAGES_VERSION_NUMBER 11300
 
 #ifdef __cplusplus
 extern "C" {
@@ -294,8 +294,8 @@ uint32_t faxpages_salvage(const uint8_t *file, size_t file_len, uint32_t page,
 
 /* Writes what is left of a page from a place on, as much as has room: the rows that are found, one
  * after another in `stride` bytes each, as faxpages_salvage has them, and nothing for rows that
- * are lost; and the stretches of these. So of the rows from the place's on, up to the row that is
- * told, those that stand in no stretch are found, in order. Begin with {page, 0, 0, 0}, and call
+ * are lost; and the stretches of these. So a row from the place's row on, and before the row in
+ * `told`, is either in a stretch or written, in order. Begin with {page, 0, 0, 0}, and call
  * while it is DONE: the stretches of all calls are those that faxpages_salvage writes. That ends
  * for any file if a row and a stretch have room, and no row is read twice.
  *
@@ -398,14 +398,15 @@ uint32_t faxpages_strip_rows(const uint8_t *strip, size_t strip_len,
                              size_t stride, struct faxpages_told *told);
 
 /* Reads rows as faxpages_strip_rows does, of a strip of which the first bytes are there and more
- * may follow, as from a line. Whatever follows, that call would tell the same of all bytes; but for
- * MORE: then only the rows that are written are the same. The row that is due is not settled, the
- * place stays at it, and the fault is all 0. It is MORE if these bytes end within that row, or
- * before its place, whose runs are then not looked at; and if nobody counted the rows, also if they
- * would end with the data, or, where what is left may still become an end mark, with TOO_MANY_ROWS
- * or END_MARKER. Where nothing that follows can change it, it is told at once: so a place of more
- * than 4294967288 bits, which no strip has, is OUTSIDE. Call again from that place with more bytes;
- * if no more come, faxpages_strip_rows tells from there how the rows end. */
+ * may follow, as from a line. Its answer is the one that faxpages_strip_rows would give of all
+ * bytes, whatever follows these; or it is MORE, and then the rows that are written are the same
+ * whatever follows, the place stays before the next row, and the fault is all 0. It is MORE if
+ * these bytes end within the next row, or before its place, whose runs are then not looked at; and
+ * if the height is unknown, also if the rows would end with the data, or, where what remains may
+ * still become an end mark, with TOO_MANY_ROWS or END_MARKER. What no more bytes can change is
+ * answered at once: so a place of more than 4294967288 bits, which no strip has, is OUTSIDE. Call
+ * again from that place with more bytes; if no more come, faxpages_strip_rows says from there how
+ * the rows end. */
 uint32_t faxpages_strip_part(const uint8_t *strip, size_t strip_len,
                              const struct faxpages_strip *form, struct faxpages_place *place,
                              uint32_t *runs, size_t runs_room, uint8_t *out, size_t out_room,

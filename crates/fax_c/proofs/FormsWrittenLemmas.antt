@@ -39,7 +39,7 @@ pub record AreFormsWritten (file : List ℕ) (from : Cursor) (pages : PagesView)
   pub end : End
   pub tail : IsFormTail file from items end
   pub same_file : pages.file ≡ file
-  pub same_begun : pages.origin ≡ from
+  pub same_started : pages.origin ≡ from
   pub yielded : pages.yielded ≡ count
   pub few : count ≤ length items
   pub asked : count ≤ length old
@@ -54,7 +54,7 @@ none_written pages old one none =
       end = tail.end;
       tail = tail.is;
       same_file = refl;
-      same_begun = refl;
+      same_started = refl;
       yielded = none;
       few = omega arith;
       asked = omega arith;
@@ -94,7 +94,7 @@ module _ {file : List ℕ} {from : Cursor} {pages : PagesView} {count : ℕ} {ol
         end = so_far.end;
         tail = so_far.tail;
         same_file = ap (λ (p : PagesView). p.file) hands.0.new_is ∙ so_far.same_file;
-        same_begun = ap (λ (p : PagesView). p.origin) hands.0.new_is ∙ so_far.same_begun;
+        same_started = ap (λ (p : PagesView). p.origin) hands.0.new_is ∙ so_far.same_started;
         yielded = ap (λ (p : PagesView). p.yielded) hands.0.new_is ∙ ap (λ n. n + 1) so_far.yielded;
         few = omega (arith, inside);
         asked = omega (arith, below);

@@ -1,6 +1,6 @@
 -- What is reported of the first bytes of a strip holds of all bytes, whatever follows.
 use Rattle.std.proofs.Common.{◌≡◌, ℕ, ◌+◌, ◌-◌, ◌*◌, ◌≤◌, List, [], ◌∷◌, ◌++◌, length, drop}
-use Rattle.std.proofs.Common.{Bool, refl, ap, sym, ◌∙◌}
+use Rattle.std.proofs.Common.{Bool, true, false, true≢false, IsTrue, refl, ap, sym, ◌∙◌}
 use Rattle.std.proofs.Common.{subst, arith, inl, inr, Option, Some, None, length-append}
 use Rattle.std.specs.Prelude.{◌⊎◌}
 use Rattle.std.proofs.lemmas.List.{drop-append-le}
@@ -17,10 +17,9 @@ use Rattle.fax_page.specs.declared.RowsEnd.TheVariants as ends
 use Rattle.fax_page.specs.declared.StripFault.{StripFault}
 use Rattle.fax_page.specs.declared.StripForm.{StripForm}
 use Rattle.fax_page.specs.Lines.{IsCause}
-use Rattle.fax_page.specs.Strip.{AreLines, HasEndMark}
-use Rattle.fax_page.specs.Uncounted.{RowsEndAs, HasDataEnd, MayHaveEndMark}
+use Rattle.fax_page.specs.Strip.{eol_bits}
+use Rattle.fax_page.specs.Uncounted.{MayHaveEndMark, end_by_stop, has_data_end, has_end_mark, rows_end}
 use Rattle.fax_page.specs.declared.StripFault.TheVariants.{EndMarker}
-use Rattle.fax_page.proofs.MarkLemmas.{mark_may_follow}
 use Rattle.fax_page.specs.laws.Following.{EndsStayWhateverFollows, StaysWhateverFollows}
 use Rattle.fax_walk.specs.declared.cursor.Cursor.{Cursor}
 use Rattle.fax_c.specs.declared.fill.Filled.{Filled}
@@ -31,7 +30,7 @@ use Rattle.fax_c.specs.declared.told.FaxTold.{FaxTold}
 use Rattle.fax_c.specs.views.Places.{most_runs}
 use Rattle.fax_c.specs.views.BareStrips.{AskedStrip, HasRoom, IsEndAt, IsPlace, IsPlaceAfter, IsReadableIn, IsReadTold}
 use Rattle.fax_c.specs.views.BareStrips.{ReadsNone, ReadsOn, ReadsTo, StopsAt, StripMemory, StripPlace}
-use Rattle.fax_c.specs.views.BareStrips.{met_in_strip, stop_in_strip}
+use Rattle.fax_c.specs.views.BareStrips.{IsMet, met_in_strip, stop_in_strip}
 use Rattle.fax_c.specs.views.StripParts.{ArePartRead, AwaitsMore, IsNothingRead, IsUnsettled, IsUnsettledAt, MayChange}
 use Rattle.fax_c.specs.views.StripParts.{TellsStripPart}
 use Rattle.fax_c.specs.code.StripParts.{EndMayChange, IsAhead, IsMoreTold, MayGoOn, StopMayChange}
@@ -41,19 +40,55 @@ bits_follow : (order : _) (strip more : List ℕ) → bits order (strip ++ more)
 unfolding bits
 bits_follow order strip more = flat_map-append (byte_bits order) strip more
 
--- no end mark stands after all bits
-no_mark_after : (coding : Coding) → HasEndMark coding [] → ⊥
-no_mark_after Mh mark = let eol = mark.1.1 in cc
-no_mark_after Mr mark = let eol = mark.1.1 in cc
-no_mark_after Mmr mark = let is = mark.1 in cc
+-- no end mark stands after all bits, and one may follow them
+no_mark_after : (coding : Coding) → IsTrue (has_end_mark coding []) → ⊥
+no_mark_after Mh mark = cc (mark)
+no_mark_after Mr mark = cc (mark)
+no_mark_after Mmr mark = cc (mark)
 
-mark_within : (coding : Coding) (n : ℕ) (b : List Bool) → HasEndMark coding (drop n b) → n ≤ length b
+abbrev six : List Bool → List Bool
+six b = b ++ b ++ b ++ b ++ b ++ b
+
+mark_may_follow : (coding : Coding) → MayHaveEndMark coding []
+mark_may_follow Mh = (six eol_bits, refl)
+mark_may_follow Mr = (six (eol_bits ++ true ∷ []), refl)
+mark_may_follow Mmr = (eol_bits ++ eol_bits, refl)
+
+mark_within : (coding : Coding) (n : ℕ) (b : List Bool) → IsTrue (has_end_mark coding (drop n b)) → n ≤ length b
 mark_within coding n b mark =
     elim (cases_lt (length b) n) [
-      | inl beyond ↦ absurd (no_mark_after coding (subst (HasEndMark coding)
+      | inl beyond ↦ absurd (no_mark_after coding (subst (λ c. IsTrue (has_end_mark coding c))
           (drop_of_length-le b (omega (arith, beyond))) mark))
       | inr within ↦ within
     ]
+
+-- how rows end, by whether an end mark stands there, and whether the data end
+abbrev end_by : Bool → Bool → Option StripFault → RowsEnd
+end_by mark data_end met =
+    elim mark [ true ↦ ends.Marked | false ↦ elim data_end [ true ↦ ends.DataEnd | false ↦ end_by_stop met ] ]
+
+abbrev AreWhere : Bool → Bool → Option StripFault → RowsEnd → Type 0
+AreWhere mark data_end met ends.Marked = mark ≡ true
+AreWhere mark data_end met ends.DataEnd = Unit {0}
+AreWhere mark data_end met (ends.Fault fault) = (mark ≡ false) × (data_end ≡ false) × (met ≡ Some fault)
+AreWhere mark data_end met ends.TooMany = (mark ≡ false) × (data_end ≡ false) × (met ≡ None)
+
+end_where : (mark data_end : Bool) (met : Option StripFault) → AreWhere mark data_end met (end_by mark data_end met)
+end_where true data_end met = refl
+end_where false true met = tt
+end_where false false None = (refl, refl, refl)
+end_where false false (Some fault) = (refl, refl, refl)
+
+not_true : (test : Bool) → (IsTrue test → ⊥) → test ≡ false
+not_true true never = absurd (never refl)
+not_true false never = refl
+
+unmarked_end : (coding : Coding) (row : ℕ) (b : List Bool) (met : Option StripFault)
+    → (IsTrue (has_end_mark coding b) → ⊥) → (IsTrue (has_data_end row b) → ⊥)
+    → rows_end coding row b met ≡ end_by_stop met
+unmarked_end coding row b met unmarked more =
+    ap (λ mark. end_by mark (has_data_end row b) met) (not_true (has_end_mark coding b) unmarked)
+    ∙ ap (λ data_end. end_by false data_end met) (not_true (has_data_end row b) more)
 
 -- a fault is an end marker or another
 marker_or_not : (fault : StripFault) → (fault ≡ EndMarker) ⊎ (fault ≡ EndMarker → ⊥)
@@ -89,12 +124,11 @@ module _ (form : StripForm) (all : List Bool) where
   -- where the strip stops its rows after others, the next one has room, and this is in its way
   lines_by : (to : StripPlace) (page stride remaining : ℕ) (stop : Stop) (met : Option StripFault)
       → met_in_strip stop ≡ Some met → StopsAt form all to page stride remaining stop
-      → (stride ≤ remaining) × AreLines form to.row to.reference (drop to.bits all) [] met (drop to.bits all)
+      → (stride ≤ remaining) × IsMet form to (drop to.bits all) met
   lines_by to page stride remaining stop met by (inl (is, full)) = let none = ap met_in_strip (sym is) ∙ by in cc
   lines_by to page stride remaining stop met by (inr (room, other, is, lines)) = (
     room,
-    subst (λ m. AreLines form to.row to.reference (drop to.bits all) [] m (drop to.bits all))
-        (met_is page to.row stop other met is by) lines,
+    subst (λ m. IsMet form to (drop to.bits all) m) (met_is page to.row stop other met is by) lines,
   )
 
 module _ (form : StripForm) (strip : List ℕ) (stride : ℕ) (place : FaxPlace) (stop : Stop) where
@@ -116,7 +150,7 @@ module _ (form : StripForm) (strip : List ℕ) (stride : ℕ) (place : FaxPlace)
   unsettled_by given to page remaining changes (inl (is, full)) = absurd (rw is at changes)
   unsettled_by given to page remaining changes (inr (room, None, is, lines)) = absurd (rw is at changes)
   unsettled_by given to page remaining changes (inr (room, Some fault, is, lines)) =
-      (room, inl (lines.1, rw (rw is at changes) at lines.2))
+      (room, inl (lines.0, rw (rw is at changes) at lines.1))
 
 module _ (stays : (form : StripForm) (i : ℕ) (reference : List Colour) → StaysWhateverFollows form i reference)
     (end_stays : EndsStayWhateverFollows)
@@ -161,11 +195,11 @@ module _ (stays : (form : StripForm) (i : ℕ) (reference : List Colour) → Sta
       → StopsAt form whole to page stride remaining stop
   stop_stays place to page stride remaining stop within stay (inl full) = inl full
   stop_stays place to page stride remaining stop within stay (inr (room, None, is, lines)) =
-      inr (room, None, is, (refl, lines.1))
+      inr (room, None, is, lines)
   stop_stays place to page stride remaining stop within stay (inr (room, Some fault, is, lines)) =
       let cause = (stays form to.row to.reference).fault (drop to.bits all) rest fault
-      (λ ends. stay (rw is ends)) lines.2 in
-      inr (room, Some fault, is, (refl, lines.1, rw (at_bit_offset to.bits within) cause))
+      (λ ends. stay (rw is ends)) lines.1 in
+      inr (room, Some fault, is, (lines.0, rw (at_bit_offset to.bits within) cause))
 
   none_stays : (stride : ℕ) (place : FaxPlace) (runs : List ℕ) (room : ℕ) (stop : Stop)
       → length (strip ++ more) ≤ 536870911 → (StopMayChange form strip place stop → ⊥)
@@ -243,7 +277,7 @@ module _ (stays : (form : StripForm) (i : ℕ) (reference : List Colour) → Sta
         i = to.row;
         reference = to.reference;
         within = omega (arith, there.1, ends_within form all from read.rows to within read.read);
-        cause = subst (λ n. IsCause form to.row to.reference (drop n all) fault) there.1 lines.1.2;
+        cause = subst (λ n. IsCause form to.row to.reference (drop n all) fault) there.1 lines.1.1;
       }
   cause_there stride old filled new fault by (inr (none, count, used, cursor, same)) =
       let end = (none_by form strip stride old.place filled.stop old.runs (length old.raster) (Some fault) by none).2 in
@@ -260,35 +294,41 @@ module _ (stays : (form : StripForm) (i : ℕ) (reference : List Colour) → Sta
 
   -- where none may stand, and no row is expected, the rows end as before
   unmarked_stays : (place : FaxPlace) → (MayHaveEndMark form.coding (drop place.bits all) → ⊥)
-      → (HasDataEnd place.row (drop place.bits all) → ⊥)
-      → (HasEndMark form.coding (drop place.bits whole) → ⊥) × (HasDataEnd place.row (drop place.bits whole) → ⊥)
+      → (IsTrue (has_data_end place.row (drop place.bits all)) → ⊥)
+      → (IsTrue (has_end_mark form.coding (drop place.bits whole)) → ⊥)
+      × (IsTrue (has_data_end place.row (drop place.bits whole)) → ⊥)
   unmarked_stays place unmarked no_end =
       let from = at_bit_offset place.bits (within_or_marked place.bits unmarked) in (
         λ mark. unmarked (rest, rw from at mark),
         λ ends. no_end (end_stays.fill place.row (drop place.bits all) rest (rw from at ends)),
       )
 
+  -- (a test that is false holds nowhere)
+  holds_not : (test : Bool) → test ≡ false → IsTrue test → ⊥
+  holds_not test fails is = true≢false (sym is ∙ fails)
+
   ends_so_stays : (place : FaxPlace) (met : Option StripFault) (end : RowsEnd)
       → ((fault : StripFault) → met ≡ Some fault → HasCause place fault)
       → (MayChange form.coding (drop place.bits all) end → ⊥)
-      → RowsEndAs form.coding place.row (drop place.bits all) met end
-      → RowsEndAs form.coding place.row (drop place.bits whole) met end
+      → AreWhere (has_end_mark form.coding (drop place.bits all)) (has_data_end place.row (drop place.bits all)) met end
+      → end ≡ rows_end form.coding place.row (drop place.bits whole) met
   ends_so_stays place met ends.Marked known stay so =
       rw (at_bit_offset place.bits (mark_within form.coding place.bits all so))
-      (end_stays.mark form.coding place.row (drop place.bits all) rest met so)
+      (sym (end_stays.mark form.coding place.row (drop place.bits all) rest met so))
   ends_so_stays place met ends.DataEnd known stay so = absurd (stay tt)
   ends_so_stays place met (ends.Fault fault) known stay so = elim (marker_or_not fault) [
     | inl is ↦
-        let none = unmarked_stays place (λ may. stay (inr (is, may))) so.1 in
-        (none.0, none.1, so.2)
+        let none = unmarked_stays place (λ may. stay (inr (is, may))) (holds_not _ so.1) in
+        sym (unmarked_end form.coding place.row (drop place.bits whole) met none.0 none.1 ∙ ap end_by_stop so.2)
     | inr other ↦
         let there = known fault so.2 in
         rw (at_bit_offset place.bits there.within, so.2)
-        (end_stays.fault form there.i place.row there.reference (drop place.bits all) rest fault
-        (λ is. stay (inl is)) other there.cause)
+        (sym (end_stays.fault form there.i place.row there.reference (drop place.bits all) rest fault
+        (λ is. stay (inl is)) other there.cause))
   ]
   ends_so_stays place met ends.TooMany known stay so =
-      let none = unmarked_stays place stay so.1 in (none.0, none.1, so.2)
+      let none = unmarked_stays place stay (holds_not _ so.1) in
+      sym (unmarked_end form.coding place.row (drop place.bits whole) met none.0 none.1 ∙ ap end_by_stop so.2)
 
   -- the end of these bytes is that of all
   end_at_stays : (given : FaxStrip) (stride : ℕ) (old : StripMemory) (filled : Filled) (new : StripMemory)
@@ -300,7 +340,14 @@ module _ (stays : (form : StripForm) (i : ℕ) (reference : List Colour) → Sta
   end_at_stays given stride old filled new (Some end) reads stay (uncounted, met, by, so) =
       let known : (fault : StripFault) → met ≡ Some fault → HasCause new.place fault =
       λ fault is. cause_there stride old filled new fault (by ∙ ap Some is) reads in
-      (uncounted, met, by, ends_so_stays new.place met end known (λ changes. stay (inr changes)) so)
+      let mark = has_end_mark form.coding (drop new.place.bits all) in
+      let data_end = has_data_end new.place.row (drop new.place.bits all) in (
+        uncounted,
+        met,
+        by,
+        ends_so_stays new.place met end known (λ changes. stay (inr changes))
+            (rw so (end_where mark data_end met)),
+      )
 
 module _ (stays : (form : StripForm) (i : ℕ) (reference : List Colour) → StaysWhateverFollows form i reference)
     (end_stays : EndsStayWhateverFollows) (stand : AreBitsByIndex)
@@ -338,7 +385,7 @@ module _ (stays : (form : StripForm) (i : ℕ) (reference : List Colour) → Sta
     met : Option StripFault
     by : met_in_strip filled.stop ≡ Some met
     its : RowsEnd
-    so : RowsEndAs form.coding new.place.row (drop new.place.bits all_bits) met its
+    so : its ≡ rows_end form.coding new.place.row (drop new.place.bits all_bits) met
     changes : MayChange form.coding (drop new.place.bits all_bits) its
 
   ends_open : (end : Option RowsEnd) → EndMayChange form.coding (drop new.place.bits all_bits) end
@@ -359,8 +406,8 @@ module _ (stays : (form : StripForm) (i : ℕ) (reference : List Colour) → Sta
       let found = ends_open end changes at in
       let lines = lines_by form all_bits to old.place.page asked.stride (length old.raster - filled.used) filled.stop
       found.met found.by stops in
-      let so : RowsEndAs form.coding to.row (drop to.bits all_bits) found.met found.its = rw (row, bits_are) found.so in
-      (lines.0, inr (found.uncounted, found.met, found.its, lines.1, so, rw bits_are found.changes))
+      let may = subst (MayChange form.coding (drop new.place.bits all_bits)) found.so found.changes in
+      (lines.0, inr (found.uncounted, found.met, lines.1, rw (row, bits_are) may))
 
   -- and why it is not where nothing is read
   unsettled_at : MayGoOn form asked.strip new.place filled.stop end → new ≡ old
@@ -374,12 +421,10 @@ module _ (stays : (form : StripForm) (i : ℕ) (reference : List Colour) → Sta
       let found = ends_open end changes at in
       let last = none_by form asked.strip asked.stride old.place filled.stop old.runs (length old.raster) found.met
       found.by none in
-      let so = subst
-      (λ (m : StripMemory). RowsEndAs form.coding m.place.row (drop m.place.bits all_bits) found.met found.its) same
-      found.so in
-      let changes = subst (λ (m : StripMemory). MayChange form.coding (drop m.place.bits all_bits) found.its) same
-      found.changes in
-      (last.0, inr (found.uncounted, last.1, found.its, rw last.2 at so, changes))
+      let may = subst (MayChange form.coding (drop new.place.bits all_bits)) found.so found.changes in
+      let here = subst (λ (m : StripMemory). MayChange form.coding (drop m.place.bits all_bits)
+      (rows_end form.coding m.place.row (drop m.place.bits all_bits) found.met)) same may in
+      (last.0, inr (found.uncounted, last.1, rw last.2 at here))
 
   awaits : IsMoreTold filled told status → MayGoOn form asked.strip new.place filled.stop end
       → ReadsOn form asked.strip asked.stride old filled new → AwaitsMore form asked old new told

@@ -12,7 +12,7 @@ use Rattle.fax_walk.specs.Pages.{LongCursorValue}
 use Rattle.fax_walk.specs.views.Walk.{HasPage, IsLongOf, WalkView, place_inside}
 use Rattle.fax_c.specs.declared.places.FaxPlace.{FaxPlace}
 use Rattle.fax_c.specs.views.Filled.{TakesRuns}
-use Rattle.fax_c.specs.views.Places.{HasRuns, IsAfterRows, KeepsRuns, place_begun, cursor_of, most_runs, place_at}
+use Rattle.fax_c.specs.views.Places.{HasRuns, IsAfterRows, KeepsRuns, place_started, cursor_of, most_runs, place_at}
 use Rattle.fax_c.specs.code.CallSteps.{IsInsideTold, IsPutAt}
 use Rattle.fax_walk.proofs.ShortLemmas.{some_run}
 
@@ -52,17 +52,17 @@ inside_untold walk lent old old_runs runs long (same, short) =
 
 -- a walk from a place begins at its cursor
 pub start_cursor-origin_of : (place : FaxPlace) (runs : List ℕ) → cursor_of place
-    ≡ start_cursor (place_begun place runs)
+    ≡ start_cursor (place_started place runs)
 start_cursor-origin_of place runs = grind arith
 
 -- a walk from a place inside a strip takes its runs
 pub takes_runs : (file : List ℕ) (place : FaxPlace) (runs : List ℕ) → 0 < place.runs → HasPage file place.page
-    → TakesRuns file (place_begun place runs) 0
+    → TakesRuns file (place_started place runs) 0
 takes_runs file place runs some page = grind arith
 
 -- where nothing was written, a place inside a strip stays
 pub stays : (file : List ℕ) (place : FaxPlace) (runs : List ℕ) (cursor : Cursor) → HasRuns place runs
-    → IsAfterRows file (place_begun place runs) cursor 0 place runs
+    → IsAfterRows file (place_started place runs) cursor 0 place runs
 stays file place runs cursor (some, within) = grind arith
 
 -- the place after the rows that a walk has returned is reported

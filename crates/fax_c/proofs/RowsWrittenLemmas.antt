@@ -51,7 +51,7 @@ pub record AreRowsWritten {N : Type 0} (numbers : List Colour → List N) (file 
   pub end : End
   pub tail : IsTailFrom file origin items end
   pub same_file : walk.file ≡ file
-  pub same_begun : walk.origin ≡ origin
+  pub same_started : walk.origin ≡ origin
   pub yielded : walk.yielded ≡ count
   pub few : count ≤ length items
   pub asked : count ≤ length old_rows
@@ -70,7 +70,7 @@ none_written numbers walk rows out one none =
       end = tail.end;
       tail = tail.is;
       same_file = refl;
-      same_begun = refl;
+      same_started = refl;
       yielded = none;
       few = omega arith;
       asked = omega arith;
@@ -128,7 +128,7 @@ module _ {N : Type 0} {numbers : List Colour → List N} {file : List ℕ} {orig
         end = so_far.end;
         tail = so_far.tail;
         same_file = ap (λ (w : WalkView). w.file) hands.new_is ∙ so_far.same_file;
-        same_begun = ap (λ (w : WalkView). w.origin) hands.new_is ∙ so_far.same_begun;
+        same_started = ap (λ (w : WalkView). w.origin) hands.new_is ∙ so_far.same_started;
         yielded = ap (λ (w : WalkView). w.yielded) hands.new_is ∙ ap (λ n. n + 1) so_far.yielded;
         few = omega (arith, inside);
         asked = omega (arith, below);
@@ -159,7 +159,7 @@ module _ {N : Type 0} {numbers : List Colour → List N} {file : List ℕ} {orig
   stops NoRoom new new_out below (item, hands, (same, small)) =
       ((below, (item, next_is item hands.number, omega (arith, small, so_far.same_len))), same)
   stops Memory new new_out below (enters, new_is, same) =
-      ((below, inl (rw (so_far.same_file, so_far.same_begun, so_far.yielded) at enters)), same)
+      ((below, inl (rw (so_far.same_file, so_far.same_started, so_far.yielded) at enters)), same)
 
   -- the rows so far are all, where there is a reason
   filled : (stop : Stop) (at : Cursor) → IsCursorOf walk at

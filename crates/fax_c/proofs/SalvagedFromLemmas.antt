@@ -46,7 +46,7 @@ use Rattle.fax_c.specs.views.Places.{HasRuns, cursor_of, place_at}
 use Rattle.fax_c.specs.views.SalvagedFrom.{EndsFound, HasRoomForBoth, HasRoomFor, IsFull, StopsNoLater}
 use Rattle.fax_c.specs.views.SalvagedFrom.{IsPlaceOn, LeftMemory, WritesFrom, WritesNone}
 use Rattle.fax_c.proofs.ListLemmas.{more_put, one_set}
-use Rattle.fax_c.proofs.StripLemmas.{due_told}
+use Rattle.fax_c.proofs.StripLemmas.{upcoming_told}
 use Rattle.fax_c.proofs.PaddedLemmas.{fills_stride, padded_push}
 use Rattle.fax_walk.proofs.ShortLemmas.{some_run}
 
@@ -95,7 +95,7 @@ module _ (first : RowsFromView) (page row : ℕ) where
   pub record AreLostSoFar (now : RowsFromView) (upcoming : ℕ) (lost : Option LostRows) : Type 0 where
     pub over : List PageRow
     pub passes : PassesOver first over now
-    pub due_is : upcoming ≡ row + length over
+    pub upcoming_is : upcoming ≡ row + length over
     pub at : upcoming_row now ≡ upcoming
     pub none : found_of over ≡ []
     pub items : (rows : List PageRow) → page_items page row (over ++ rows)
@@ -106,7 +106,7 @@ module _ (first : RowsFromView) (page row : ℕ) where
   none_lost at within = record {
     over = [];
     passes = passes_none first (omega (arith, at, within));
-    due_is = omega arith;
+    upcoming_is = omega arith;
     at = at;
     none = refl;
     items = λ rows. refl;
@@ -124,7 +124,7 @@ module _ {first now new : RowsFromView} {page row upcoming : ℕ} {lost : Option
       record {
         over = so_far.over ++ others;
         passes = passes_on so_far.over others so_far.passes passes;
-        due_is = omega (arith, so_far.due_is, length-append so_far.over others, len);
+        upcoming_is = omega (arith, so_far.upcoming_is, length-append so_far.over others, len);
         at = omega (arith, passes.next, so_far.at, len);
         none = rw (found_append, so_far.none) (none_found n cause);
         items = λ rows. rw (append_assoc, so_far.items) (lost_on lost page upcoming n cause rows some);
@@ -137,7 +137,7 @@ module _ {first now new : RowsFromView} {page row upcoming : ℕ} {lost : Option
   found_ahead (passes, none, ends) = record {
     over = so_far.over ++ Ok new.last ∷ [];
     passes = passes_on so_far.over (Ok new.last ∷ []) so_far.passes passes;
-    row_is = omega (arith, so_far.due_is, length_push so_far.over (Ok new.last));
+    row_is = omega (arith, so_far.upcoming_is, length_push so_far.over (Ok new.last));
     lost_are = λ rows _. rw (append_assoc, so_far.items)
         (lost_then lost page upcoming new.last (page_items page (upcoming + 1) rows));
     found = λ _. (rw (found_append, so_far.none), (so_far.over, new.last, refl), none, ends);
@@ -150,7 +150,7 @@ module _ {first now new : RowsFromView} {page row upcoming : ℕ} {lost : Option
   none_ahead (passes, all, are, alone) = record {
     over = so_far.over ++ [];
     passes = passes_on so_far.over [] so_far.passes passes;
-    row_is = omega (arith, so_far.due_is, length-append so_far.over []);
+    row_is = omega (arith, so_far.upcoming_is, length-append so_far.over []);
     lost_are = λ rows none. rw (none refl, append_assoc, so_far.items) (lost_last lost);
     found = λ is. absurd cc;
     ended = λ _. (rw append-nil so_far.none, all, alone);
@@ -187,7 +187,7 @@ module _ (first : RowsFromView) (page row stride : ℕ) (old : List ℕ) (old_lo
       : Type 0 where
     pub over : List PageRow
     pub passes : PassesOver first over now
-    pub due_is : upcoming ≡ row + length over
+    pub upcoming_is : upcoming ≡ row + length over
     pub at : upcoming_row now ≡ upcoming
     pub count_is : count ≡ length (found_of over)
     pub bytes : length (flat_map (padded_row stride) (found_of over)) ≡ used
@@ -209,7 +209,7 @@ module _ (first : RowsFromView) (page row stride : ℕ) (old : List ℕ) (old_lo
   nothing_written at within = record {
     over = [];
     passes = passes_none first (omega (arith, at, within));
-    due_is = omega arith;
+    upcoming_is = omega arith;
     at = at;
     count_is = refl;
     bytes = refl;
@@ -240,8 +240,8 @@ module _ {first now : RowsFromView} {page row stride upcoming count used stretch
     abbrev its_closed : List FaxLost
     its_closed = so_far.closed ++ stretches_of ahead.lost
 
-    due_next : ahead.row ≡ row + length its_over
-    due_next = omega (arith, next.row_is, so_far.due_is, length-append so_far.over next.over)
+    upcoming_next : ahead.row ≡ row + length its_over
+    upcoming_next = omega (arith, next.row_is, so_far.upcoming_is, length-append so_far.over next.over)
 
     its_lost : (rows : List PageRow) → (ahead.found ≡ false → rows ≡ [])
         → lost_from page row (its_over ++ rows) ≡ its_closed ++ lost_from page ahead.row rows
@@ -271,7 +271,7 @@ module _ {first now : RowsFromView} {page row stride upcoming count used stretch
         record {
           over = its_over;
           passes = its_passes;
-          due_is = due_next;
+          upcoming_is = upcoming_next;
           at = omega (arith, next.passes.next, next.row_is, so_far.at);
           count_is = rw (rows_are, length_push, so_far.count_is);
           bytes = rw (bytes_are, length-append, so_far.bytes) (sym end_is);
@@ -330,7 +330,7 @@ module _ {first now : RowsFromView} {page row stride upcoming count used stretch
               split = refl;
               count = rw found_are so_far.count_is;
               used = rw lost_are its_put.1;
-              cursor = ap (λ n. record { page = page; row = n }) due_next;
+              cursor = ap (λ n. record { page = page; row = n }) upcoming_next;
               written = rw (found_are, ← so_far.used_is) so_far.written;
               lost_are = rw lost_are its_put.0;
               stops = (alone rest remaining, λ ends. not_full (none_later so_far.over next.over none ends));
@@ -375,7 +375,7 @@ module _ {first now : RowsFromView} {page row stride upcoming count used stretch
               split = refl;
               count = so_far.count_is;
               used = rw lost_are so_far.stretches_is;
-              cursor = ap (λ n. record { page = page; row = n }) so_far.due_is;
+              cursor = ap (λ n. record { page = page; row = n }) so_far.upcoming_is;
               written = rw (← so_far.used_is) so_far.written;
               lost_are = rw lost_are so_far.put;
               stops = (ends, rw (← so_far.used_is) full);
@@ -414,7 +414,8 @@ module _ (remaining : RowsFromView) (place : FaxPlace) (cursor : Cursor) (runs :
   told_inside old_runs lent cursor_is bits_are placed put =
       let row_there : place.row ≡ upcoming_row remaining = ap (λ (c : Cursor). c.row) cursor_is ∙ row_is in
       let (s, i, there, fits, width, first, rows_are) = placed goes_on upcoming in
-      let told = due_told remaining.here.form.width lent.reference.now (upcoming_row remaining) lent.bits place.runs
+      let told = upcoming_told remaining.here.form.width lent.reference.now (upcoming_row remaining) lent.bits
+      place.runs
       cursor.page
       old_runs runs width put in
       let at : StripPosition = record { bits = lent.bits; reference = lent.reference.now } in

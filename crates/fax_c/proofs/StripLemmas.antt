@@ -13,7 +13,7 @@ use Rattle.fax_page.specs.Lines.{IsLine, white_row}
 use Rattle.fax_page.specs.declared.PlaceFault.TheVariants.{Memory, Outside}
 use Rattle.fax_page.specs.declared.ReferenceRow.{ReferenceRow}
 use Rattle.fax_page.specs.declared.ReferenceRow.TheVariants.{Runs, White}
-use Rattle.fax_page.specs.views.Reader.{IsBegunInside, ReadsRow, StripState}
+use Rattle.fax_page.specs.views.Reader.{IsStartedInside, ReadsRow, StripState}
 use Rattle.fax_c.specs.declared.fill.Filled.{Filled}
 use Rattle.fax_c.specs.declared.fill.Stop.{Stop}
 use Rattle.fax_walk.specs.declared.cursor.Cursor.{Cursor}
@@ -29,12 +29,12 @@ use Rattle.fax_c.proofs.PaddedLemmas.{fills_stride, padded_push}
 use Rattle.fax_walk.proofs.ShortLemmas.{some_run}
 
 -- where no reader begins after the row that a place's runs say, no row is expected there
-pub not_begun : (form : StripForm) (strip : List ℕ) (place : FaxPlace) (runs : List ℕ) (before : ReferenceRow)
-    → IsRowBefore place runs (Some before) → IsBegunInside form strip place.row place.bits before (Err Outside)
+pub not_started : (form : StripForm) (strip : List ℕ) (place : FaxPlace) (runs : List ℕ) (before : ReferenceRow)
+    → IsRowBefore place runs (Some before) → IsStartedInside form strip place.row place.bits before (Err Outside)
     → (at : StripPlace) → IsUpcomingAt form strip place runs at → ⊥
-not_begun form strip place runs White its none at (is, below, within) =
+not_started form strip place runs White its none at (is, below, within) =
     none (omega (arith, is.bits, within)) (white_row form.width) refl
-not_begun form strip place runs (Runs those) (has, same) none at (is, below, within) = elim is.reference [
+not_started form strip place runs (Runs those) (has, same) none at (is, below, within) = elim is.reference [
   | inl (zero, white) ↦ omega (arith, zero, has.0)
   | inr (there, runs_are) ↦ none (omega (arith, is.bits, within)) at.reference (is.width_is, runs_are ∙ sym same)
 ]
@@ -42,7 +42,7 @@ not_begun form strip place runs (Runs those) (has, same) none at (is, below, wit
 -- and where memory is refused for one, a row is expected there
 pub refused_at : (form : StripForm) (strip : List ℕ) (place : FaxPlace) (runs : List ℕ) (before : ReferenceRow)
     → place.row < form.rows → IsRowBefore place runs (Some before)
-    → IsBegunInside form strip place.row place.bits before (Err Memory)
+    → IsStartedInside form strip place.row place.bits before (Err Memory)
     → (at : StripPlace) × IsUpcomingAt form strip place runs at
 refused_at form strip place runs White upcoming its (within, row, is) =
     let place_is : IsPlace form.width place runs (record { row = place.row; bits = place.bits; reference = row }) =
@@ -84,12 +84,12 @@ pub record AreReadSoFar (form : StripForm) (bytes : List ℕ) (stride : ℕ) (fr
   pub written : now ≡ flat_map (padded_row stride) rows ++ drop used old
 
 -- the place of the next row, where the runs of the row before it are written
-pub due_told : (width : ℕ) (reference : List Colour) (row bits count page : ℕ) (old_runs runs : List ℕ)
+pub upcoming_told : (width : ℕ) (reference : List Colour) (row bits count page : ℕ) (old_runs runs : List ℕ)
     → length reference ≡ width → IsPutAt (runs_of reference) old_runs 0 (Some count) runs
     → let place : FaxPlace = record { page = page; row = row; bits = bits; runs = count } in
     HasRuns place runs × IsPlace width place runs (record { row = row; bits = bits; reference = reference })
     × (drop count runs ≡ drop count old_runs)
-due_told width reference row bits count page old_runs runs len (count_is, within, runs_are) =
+upcoming_told width reference row bits count page old_runs runs len (count_is, within, runs_are) =
     grind (arith, some_run, take_at, drop_at, length-append)
 
 -- what was read is all that is, where it stops
@@ -111,9 +111,9 @@ pub why_none : {form : StripForm} {bytes : List ℕ} (page stride remaining : �
 why_none {form} {bytes} page stride remaining stop same_form same_bytes room (same, next_form, next_bytes, why) =
     subst (λ (to : StripPlace). StopsAt form (bits form.order bytes) to page stride remaining stop) (sym same)
     (elim why [
-      | inl (end, is) ↦ inr (room, None, is, (refl, rw same_form at end.all_read))
+      | inl (end, is) ↦ inr (room, None, is, rw same_form at end.all_read)
       | inr (fault, meets, is) ↦
-          inr (room, Some fault, is, (refl, rw same_form at meets.upcoming, rw (same_form, same_bytes) at meets.cause))
+          inr (room, Some fault, is, (rw same_form at meets.upcoming, rw (same_form, same_bytes) at meets.cause))
     ])
 
 module _ {form : StripForm} {bytes : List ℕ} {stride : ℕ} {from : StripPlace} {old : List ℕ} {count used : ℕ}

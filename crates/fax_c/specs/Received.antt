@@ -1,7 +1,8 @@
 -- What the receiver of a page counted of bad rows, in memory of the caller.
 -- A definition without a citation is this project's profile.
 use Rattle.std.specs.Prelude.{◌≡◌, ℕ, is_some, unwrap_or, List, None, Result, Ok, Err}
-use Rattle.fax_files.specs.BadRows.{Received, received}
+use Rattle.fax_files.specs.declared.bad_rows.Received.{Received}
+use Rattle.fax_files.specs.BadRows.{received}
 use Rattle.fax_walk.specs.declared.end.End.{End}
 use Rattle.fax_walk.specs.Pages.{FilePage, read_page}
 use Rattle.fax_c.specs.declared.fill.Stop.TheVariants.{Done, Ended}

@@ -63,7 +63,7 @@ impl FaxPlace {
 pub(crate) fn started_at(alloc: Global, place: &FaxPlace, runs: &[u32]) -> Option<WalkStart>
     requires { place.now.runs ≤ length runs.now }
     ensures { MatchOption result (0 < place.now.runs)
-        (λ origin. origin ≡ Spec.place_begun place.now runs.now) }
+        (λ origin. origin ≡ Spec.place_started place.now runs.now) }
 {
     let at = place.cursor();
     if place.runs == 0 {

@@ -153,8 +153,8 @@ fn end_without_page(file: &[u8], at: Cursor) -> Option<End>
     }
 }
 
-/// Why a call stops that was refused memory before its first row: it may have been asked for none,
-/// and its page may not be there.
+/// Why a call stops where memory was refused before its first row: DONE where no row was asked for,
+/// the end where no such page is there, and else MEMORY.
 fn stop_at_refusal(file: &[u8], at: Cursor, asked: usize) -> Stop
     ensures { Code.IsRefusedAt file.now at asked result }
 {

@@ -4,7 +4,7 @@ ghost use Rattle.fax_bits.specs.Bits.{bits};
 ghost use Rattle.fax_bits.specs.declared.Colour.{Colour};
 ghost use Rattle.fax_page.specs.laws.Strips.{AreRowsOf};
 ghost use Rattle.fax_page.specs.Strip.{coded_strip};
-ghost use Rattle.fax_page.specs.views.Strip.{IsStrip};
+ghost use Rattle.fax_page.specs.laws.Lines.{IsStrip};
 ghost use Rattle.fax_page.specs.views.Strip.{IsStripForm};
 
 use fax_page::laws::{strips_are_read_row_by_row, strips_are_written_row_by_row};

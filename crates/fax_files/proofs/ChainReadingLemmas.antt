@@ -9,7 +9,7 @@ use Rattle.fax_files.specs.declared.FileFault.TheVariants.{DirectoryOutside, Dir
 use Rattle.fax_files.specs.Directory.{is_directory, next_offset}
 use Rattle.fax_files.specs.views.Tiff.{TiffFile, TiffDirectory, directory_of}
 use Rattle.fax_files.specs.code.Chain.{offset, cycle_start_of, IsChainPlace}
-use Rattle.fax_files.specs.views.Chain.{answer_at, chain_of, ChainState, due_answer}
+use Rattle.fax_files.specs.views.Chain.{answer_at, chain_of, ChainState, upcoming_answer}
 use Rattle.fax_files.proofs.LoopLemmas.{place_next, led, before_end, the_places}
 
 past : (xs : List ℕ) (i : ℕ) → length xs ≤ i → slice_get xs i ≡ None
@@ -46,15 +46,15 @@ module _ (tiff : TiffFile) (next_at yielded : ℕ) (sound : IsChainPlace tiff ne
   state = record { tiff = tiff; yielded = yielded }
 
   abbrev answer : Result (Option TiffDirectory) FileFault
-  answer = due_answer state
+  answer = upcoming_answer state
 
   ends_with : (some : Option FileFault) → slice_get offsets yielded ≡ None → end ≡ some
       → answer ≡ answer_at tiff None some
   ends_with some none e = rw (none, e) refl
 
   pub none_left : next_at ≡ 0 → Ok None ≡ answer
-  none_left zero_due =
-      let zero_place : (offset tiff yielded == 0) ≡ true = rw (← sound.due_is, zero_due) refl in
+  none_left zero_upcoming =
+      let zero_place : (offset tiff yielded == 0) ≡ true = rw (← sound.upcoming_is, zero_upcoming) refl in
       let e = at_end (λ before. cc ((known yielded before).0, zero_place)) in
       let last : (offset tiff (length offsets) == 0) ≡ true = rw e.1 at zero_place in
       elim (the_places tiff).ends [
@@ -69,13 +69,13 @@ module _ (tiff : TiffFile) (next_at yielded : ℕ) (sound : IsChainPlace tiff ne
   pub outside : next_at ≢ 0 → is_directory tiff.head.endian tiff.file next_at ≡ false → Err DirectoryOutside ≡ answer
   outside some none_there =
       let gone : is_directory tiff.head.endian tiff.file (offset tiff yielded)
-      ≡ false = rw sound.due_is at none_there in
+      ≡ false = rw sound.upcoming_is at none_there in
       let e = at_end (λ before. cc ((known yielded before).1, gone)) in
       let last : is_directory tiff.head.endian tiff.file (offset tiff (length offsets)) ≡ false = rw e.1 at gone in
       elim (the_places tiff).ends [
         | inl p ↦
             let none : offset tiff (length offsets) ≡ 0 = grind (arith, nat_tests, p.0) in
-            absurd (some (sound.due_is ∙ ap (offset tiff) e.1 ∙ none))
+            absurd (some (sound.upcoming_is ∙ ap (offset tiff) e.1 ∙ none))
         | inr (inl p) ↦ sym (ends_with (Some DirectoryOutside) e.0 p.2)
         | inr (inr p) ↦ absurd (cc ((known_alike (length offsets) p.0 p.2 p.1).1, last))
       ]
@@ -91,7 +91,7 @@ module _ (tiff : TiffFile) (next_at yielded : ℕ) (sound : IsChainPlace tiff ne
       → (yielded < length offsets) × (directory ≡ directory_of tiff (offset tiff yielded))
   answered directory e = let places = the_places tiff in grind (arith, places, past)
 
-  module _ (directory : TiffDirectory) (is : Ok (Some directory) ≡ due_answer state) where
+  module _ (directory : TiffDirectory) (is : Ok (Some directory) ≡ upcoming_answer state) where
     pub one_more_fits : yielded + 1 < 2 ^ 32
     one_more_fits = let count : length offsets < 2 ^ 32 = sound.few in omega (arith, (answered directory is).0)
 
@@ -100,7 +100,7 @@ module _ (tiff : TiffFile) (next_at yielded : ℕ) (sound : IsChainPlace tiff ne
     one_more next next_is =
         let p = answered directory is in
         record {
-          due_is = next_is ∙ ap (λ (d : TiffDirectory). next_offset d.endian d.file d.offset) p.1
+          upcoming_is = next_is ∙ ap (λ (d : TiffDirectory). next_offset d.endian d.file d.offset) p.1
               ∙ sym (place_next tiff yielded);
           within = omega (arith, p.0);
           few = sound.few;

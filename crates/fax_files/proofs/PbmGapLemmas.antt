@@ -191,16 +191,16 @@ gap_has_no_digit gap rest is =
 digit_stops : (rest : List ℕ) → has_digit rest ≡ true → skip_white_space false rest ≡ Some rest
 digit_stops rest digit = grind arith
 
-begun_gap : (c : ℕ) (bytes : List ℕ) → starts_white_space c ≡ true → after_gap (c ∷ bytes) ≡ skip_white_space false (c
+started_gap : (c : ℕ) (bytes : List ℕ) → starts_white_space c ≡ true → after_gap (c ∷ bytes) ≡ skip_white_space false (c
     ∷ bytes)
-begun_gap c bytes begins = ap (λ v. if v then (skip_white_space false (c ∷ bytes)) else None) begins
+started_gap c bytes begins = ap (λ v. if v then (skip_white_space false (c ∷ bytes)) else None) begins
 
 -- each gap before a digit is read to its end
 pub gap_passed : (gap rest : List ℕ) → IsGap gap → has_digit rest ≡ true → after_gap (gap ++ rest) ≡ Some rest
 gap_passed gap rest is digit =
     let b = gap_begins gap is in
     ap (λ (g : List ℕ). after_gap (g ++ rest)) b.is
-    ∙ begun_gap b.first (b.others ++ rest) b.begins
+    ∙ started_gap b.first (b.others ++ rest) b.begins
     ∙ ap (λ (g : List ℕ). skip_white_space false (g ++ rest)) (sym b.is)
     ∙ pieces_passed is.0 gap rest is.2
     ∙ digit_stops rest digit

@@ -19,8 +19,8 @@ struct Cycle {
     len: u64,
 }
 
-/// What is known of the page at which a chain turns back: a search is at an offset, or it has
-/// ended.
+/// The search for the page at which a chain turns back: running, with the offset of the directory
+/// that it looks at next, or ended, with that page's number, or `None` where the chain has an end.
 #[derive(Clone, Copy)]
 enum Search {
     Running(u32),
@@ -47,7 +47,8 @@ fn next_after(tiff: &Tiff, offset: u32) -> u32
     next_of(tiff, offset).unwrap_or(0)
 }
 
-/// Computes nothing: the offsets of a chain differ, and each is a number of four bytes, not 0.
+/// A lemma, which computes nothing: a chain has few pages, since its offsets differ, and each is a
+/// number of four bytes, not 0.
 fn lemma_few_pages(tiff: &Tiff, file: &[u8])
     requires { file.now ≡ tiff.now.file }
     ensures { Spec.HasFewPages tiff.now }
@@ -176,7 +177,7 @@ impl<'a> Model for Chain<'a> {
 
 impl<'a> Chain<'a> {
     ghost use Rattle.std.specs.Prelude.{IfOk, IfSome};
-    ghost use Rattle.fax_files.specs.views.Chain.{IsDirectoryOf, after_answer, due_answer};
+    ghost use Rattle.fax_files.specs.views.Chain.{IsDirectoryOf, after_answer, upcoming_answer};
 
     /// A reader of the directories of a file, before the first one. Nothing is read yet.
     pub fn new(tiff: Tiff<'a>) -> Self
@@ -218,7 +219,7 @@ impl<'a> Chain<'a> {
     /// `DirectoryLoop` where the next offset was returned before, `DirectoryOutside` where no whole
     /// directory stands there.
     pub fn peek(&self) -> Result<Option<Directory<'a>>, FileFault>
-        ensures answer { result ≡ due_answer self.now }
+        ensures answer { result ≡ upcoming_answer self.now }
         ensures file { IfOk result (λ found. IfSome found (IsDirectoryOf self.now.tiff)) }
     {
         if self.next_at == 0 {
@@ -236,7 +237,7 @@ impl<'a> Chain<'a> {
     ///
     /// As `peek`, from then on.
     pub fn next(&mut self) -> Result<Option<Directory<'a>>, FileFault>
-        ensures answer { result ≡ due_answer self.old }
+        ensures answer { result ≡ upcoming_answer self.old }
         ensures file { IfOk result (λ found. IfSome found (IsDirectoryOf self.old.tiff)) }
         ensures counted { self.new ≡ after_answer self.old result }
     {

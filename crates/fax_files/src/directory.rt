@@ -96,7 +96,8 @@ impl<'a> Directory<'a> {
         first
     }
 
-    /// The first entry of a tag, also of one that is not in `TAGS`. It goes from the first entry on.
+    /// The first entry of a tag, also of one that is not in `TAGS`. It goes from the first entry
+    /// on.
     pub(crate) fn first_of(&self, tag: u16) -> Option<Entry>
         ensures first { result ≡ Spec.field (entries_of self.now) tag }
         ensures inside { IfSome result (λ entry. entry.offset + 4 ≤ length self.now.file) }

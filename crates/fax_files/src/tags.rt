@@ -1,4 +1,5 @@
-//! The tags of the fields of a fax page (TIFF 6.0, sections 8, 11 and 12; RFC 2306), and the types of
+//! The tags of the fields of a fax page (TIFF 6.0, sections 8, 11 and 12; RFC 2306), and the types
+//! of
 //! their values that are read (TIFF 6.0, section 2).
 
 pub(crate) const SHORT: u16 = 3;

@@ -11,10 +11,12 @@ use Rattle.fax_page.specs.declared.StripFault.TheVariants.{DataEnds, EndMarker}
 use Rattle.fax_page.specs.Lines.{Coding, Mh, Mr, Mmr, StripFault, StripForm, IsCause, start_by}
 use Rattle.fax_page.proofs.LineParts.{cause_of}
 use Rattle.fax_page.proofs.StartLaws.{eol_is, none_at}
-use Rattle.fax_page.specs.Strip.{AreRtcEols, HasEndMark, IsRtcEol, end_bits, eol_bits}
-use Rattle.fax_page.specs.Uncounted.{RowsEndAs, Fault}
+use Rattle.fax_page.specs.Strip.{end_bits, eol_bits}
+use Rattle.fax_page.specs.Uncounted.{Fault, Marked, rows_end}
+use Rattle.fax_page.specs.code.Ends.{AreRtcEols, HasEndMark, IsRtcEol}
 use Rattle.fax_page.specs.laws.Following.{EndsStayWhateverFollows, StaysWhateverFollows}
 use Rattle.fax_page.specs.laws.Strips.{ReadsLinesOneWay}
+use Rattle.fax_page.proofs.EndGraph.{data_end_of, end_of, is_data_end, is_mark}
 use Rattle.fax_page.proofs.FollowingLaws.{eol_stays}
 use Rattle.fax_page.proofs.StartLemmas.{eleven_ahead, eleven_alone}
 
@@ -88,11 +90,12 @@ module _ (reads : (form : StripForm) (i : ℕ) (reference : List Colour) → Rea
       StripFault)
       → fault ≢ DataEnds
       → fault ≢ EndMarker → IsCause form i reference remaining fault
-      → RowsEndAs form.coding row (remaining ++ more) (Some fault) (Fault fault)
+      → rows_end form.coding row (remaining ++ more) (Some fault) ≡ Fault fault
   fault_stays form i row reference remaining more fault no_end no_marker cause =
       let b = remaining ++ more in
       let now = (stays form i reference).fault remaining more fault no_end cause in
-      let one = (reads form i reference).line.one_fault b fault in (
+      let one = (reads form i reference).line.one_fault b fault in
+      end_of form.coding row b (Some fault) (Fault fault) (
         λ mark. no_marker (one EndMarker now (mark_is_cause form i reference b form.coding refl mark)),
         λ ends.
             elim (zeros_are_cause form i reference b form.coding refl ends.1) [
@@ -104,7 +107,11 @@ module _ (reads : (form : StripForm) (i : ℕ) (reference : List Colour) → Rea
 
   pub ends_stay : EndsStayWhateverFollows
   ends_stay = record {
-    mark = λ coding row remaining more stop mark. mark_stays coding remaining more mark;
+    mark = λ coding row remaining more stop mark.
+        end_of coding row (remaining ++ more) stop Marked (mark_stays coding remaining more (is_mark coding remaining
+        mark));
     fault = fault_stays;
-    fill = λ row remaining more ends. (ends.0, front_zeros remaining more ends.1.0 ends.1.1);
+    fill = λ row remaining more is.
+        let ends = is_data_end row (remaining ++ more) is in
+        data_end_of row remaining (ends.0, front_zeros remaining more ends.1.0 ends.1.1);
   }

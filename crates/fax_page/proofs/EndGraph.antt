@@ -1,4 +1,4 @@
--- How rows end, as a function says it, is how it is defined by relations.
+-- How rows end, as a function says it, is how the program finds it.
 use Rattle.std.proofs.Common.{arith, ◌≡◌, ℕ, zero, suc, List, ◌∷◌, ◌++◌, Bool, true, false, true≢false, refl, ap, sym}
 use Rattle.std.proofs.Common.{◌∙◌, ◌↔◌, IsTrue, subst, Option, Some, None}
 use Rattle.std.specs.Prelude.{MatchOption, is_some}
@@ -9,11 +9,9 @@ use Rattle.fax_page.specs.declared.RowsEnd.{RowsEnd}
 use Rattle.fax_page.specs.declared.RowsEnd.TheVariants.{Marked, DataEnd, Fault, TooMany}
 use Rattle.fax_page.specs.declared.StripFault.{StripFault}
 use Rattle.fax_page.specs.Lines.{NextOne, ends_line, in_code, next_one, not_there}
-use Rattle.fax_page.specs.Strip.{AreRtcEols, HasEndMark, IsEndMark, IsRtcEol, end_bits, eol_bits}
-use Rattle.fax_page.specs.Uncounted.{RowsEndAs, HasDataEnd}
-use Rattle.fax_page.specs.laws.StripGraphs.{EndsAreToldByAFunction}
-use Rattle.fax_page.specs.reads.Uncounted.{ends, after_mark, after_return, after_returns, has_data_end, has_end_mark}
-use Rattle.fax_page.specs.reads.Uncounted.{end_by_stop, rows_end}
+use Rattle.fax_page.specs.Strip.{after_mark, after_return, after_returns, end_bits, eol_bits}
+use Rattle.fax_page.specs.Uncounted.{end_by_stop, has_data_end, has_end_mark, is_not_there, rows_end, MayHaveEndMark}
+use Rattle.fax_page.specs.code.Ends.{AreRtcEols, HasDataEnd, HasEndMark, IsEndMark, IsRtcEol, MayBeMarked, RowsEndAs}
 use Rattle.fax_bits.proofs.CodeLemmas.{front_is}
 use Rattle.fax_rows.proofs.StepReadLemmas.{is_false}
 use Rattle.fax_page.proofs.StartLaws.{by_next, eol_is_not_zeros, none_at}
@@ -74,22 +72,22 @@ pub has_mark : (coding : Coding) (b : List Bool) (r : Option (List Bool)) → Is
 has_mark coding b None none = (λ is. absurd (true≢false (sym is)), λ mark. absurd (none mark))
 has_mark coding b (Some rest) is = (λ some. (rest, is), λ mark. refl)
 
-mark_of : (coding : Coding) (b : List Bool) → HasEndMark coding b → has_end_mark coding b ≡ true
+pub mark_of : (coding : Coding) (b : List Bool) → HasEndMark coding b → has_end_mark coding b ≡ true
 mark_of coding b mark = (has_mark coding b (after_mark coding b) (mark_is coding b)).1 mark
 
-is_mark : (coding : Coding) (b : List Bool) → has_end_mark coding b ≡ true → HasEndMark coding b
+pub is_mark : (coding : Coding) (b : List Bool) → has_end_mark coding b ≡ true → HasEndMark coding b
 is_mark coding b is = (has_mark coding b (after_mark coding b) (mark_is coding b)).0 is
 
 -- the data ends
-data_end_of : (row : ℕ) (b : List Bool) → HasDataEnd row b → has_data_end row b ≡ true
+pub data_end_of : (row : ℕ) (b : List Bool) → HasDataEnd row b → has_data_end row b ≡ true
 data_end_of zero b has = absurd (omega (arith, has.0))
-data_end_of (suc row) b has = ap ends (none_at b has.1)
+data_end_of (suc row) b has = ap is_not_there (none_at b has.1)
 
-is_data_end : (row : ℕ) (b : List Bool) → has_data_end row b ≡ true → HasDataEnd row b
+pub is_data_end : (row : ℕ) (b : List Bool) → has_data_end row b ≡ true → HasDataEnd row b
 is_data_end zero b is = absurd (true≢false (sym is))
 is_data_end (suc row) b is = (omega arith, by (next_one 0 b) refl is)
   where
-    by : (one : NextOne) → next_one 0 b ≡ one → ends one ≡ true → IsAllZeros b
+    by : (one : NextOne) → next_one 0 b ≡ one → is_not_there one ≡ true → IsAllZeros b
     by not_there at is = by_next b not_there at
     by in_code at is = absurd (true≢false (sym is))
     by (ends_line rest) at is = absurd (true≢false (sym is))
@@ -126,8 +124,8 @@ pub end_is : (coding : Coding) (row : ℕ) (remaining : List Bool) (stop : Optio
 end_is coding row remaining stop = by_mark coding row remaining stop (has_end_mark coding remaining) refl
 
 -- and what is defined is said
-no_mark : (coding : Coding) (remaining : List Bool) → (HasEndMark coding remaining → ⊥) → has_end_mark coding remaining
-    ≡ false
+pub no_mark : (coding : Coding) (remaining : List Bool) → (HasEndMark coding remaining → ⊥)
+    → has_end_mark coding remaining ≡ false
 no_mark coding remaining unmarked = is_false _ (λ is. unmarked (is_mark coding remaining is))
 
 no_data_end : (row : ℕ) (remaining : List Bool) → (HasDataEnd row remaining → ⊥) → has_data_end row remaining ≡ false
@@ -150,9 +148,24 @@ end_of coding row remaining stop (Fault fault) ends =
 end_of coding row remaining stop TooMany ends =
     rw (no_mark coding remaining ends.0, no_data_end row remaining ends.1, ends.2, rows_end) refl
 
-pub ends_graph : EndsAreToldByAFunction
-ends_graph coding row remaining stop end = (
-  end_of coding row remaining stop end,
-  λ is. subst (RowsEndAs coding row remaining stop) is (end_is coding row
-      remaining stop),
-)
+-- as the program finds it
+pub marked_end : (coding : Coding) (row : ℕ) (b : List Bool) (stop : Option StripFault) → has_end_mark coding b ≡ true
+    → rows_end coding row b stop ≡ Marked
+marked_end coding row b stop marked = rw (marked, rows_end) refl
+
+pub unmarked_end : (coding : Coding) (row : ℕ) (b : List Bool) (stop : Option StripFault) (ended : Bool)
+    → has_end_mark coding b ≡ false → has_data_end row b ≡ ended
+    → rows_end coding row b stop ≡ (elim ended [ true ↦ DataEnd | false ↦ end_by_stop stop ])
+unmarked_end coding row b stop ended unmarked ends = rw (unmarked, ends, rows_end) refl
+
+pub is_end : (coding : Coding) (row : ℕ) (remaining : List Bool) (stop : Option StripFault) (end : RowsEnd)
+    → rows_end coding row remaining stop ≡ end → RowsEndAs coding row remaining stop end
+is_end coding row remaining stop end is =
+    subst (RowsEndAs coding row remaining stop) is (end_is coding row remaining stop)
+
+-- an end mark may stand where more bits follow
+pub may_of : (coding : Coding) (b : List Bool) → MayBeMarked coding b → MayHaveEndMark coding b
+may_of coding b (more, mark) = (more, mark_of coding (b ++ more) mark)
+
+pub is_may : (coding : Coding) (b : List Bool) → MayHaveEndMark coding b → MayBeMarked coding b
+is_may coding b (more, is) = (more, is_mark coding (b ++ more) is)

@@ -11,7 +11,8 @@ use Rattle.fax_bits.specs.views.Source.{HasLeadingZeros, Source, IsTaken}
 use Rattle.fax_page.specs.declared.Coding.{Coding}
 use Rattle.fax_page.specs.declared.Coding.TheVariants.{Mh, Mr, Mmr}
 use Rattle.fax_page.specs.declared.StripFault.{StripFault}
-use Rattle.fax_page.specs.Strip.{end_bits, IsRtcEol, AreRtcEols, IsEndMark, HasEndMark}
+use Rattle.fax_page.specs.Strip.{end_bits}
+use Rattle.fax_page.specs.code.Ends.{IsRtcEol, AreRtcEols, IsEndMark, HasEndMark}
 use Rattle.fax_page.specs.code.Notes.{IsAfterEnd, AreEolsTaken, IsAfterMark, TakesReturnEol, AreNotesAfter}
 use Rattle.fax_page.specs.code.Starts.{HasEol, HasNoEol}
 use Rattle.fax_page.proofs.StartLaws.{same_eol, eol_is_not_below}

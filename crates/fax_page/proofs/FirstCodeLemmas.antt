@@ -104,15 +104,16 @@ row_begins OneDimensional width reference b row rest some is = runs_begin width 
 row_begins TwoDimensional width reference b row rest some is = steps_begin reference b row rest is
 
 -- a row whose codes are read after what stands before them
-pub line_begun : (form : StripForm) (i : ℕ) (reference row : List Colour) (b codes rest : List Bool)
+pub line_started : (form : StripForm) (i : ℕ) (reference row : List Colour) (b codes rest : List Bool)
     (dimension : Dimension)
     → 0 < form.width → IsStart form.coding i b (read dimension codes)
     → read_codes dimension form.width reference codes ≡ read row rest
     → IsLine form i reference b row rest
-line_begun form i reference row b codes rest dimension some start coded = line_of form i reference b row rest (record {
-  dimension = dimension;
-  codes = codes;
-  start = start;
-  first_code = row_begins dimension form.width reference codes row rest some coded;
-  coded = coded;
-})
+line_started form i reference row b codes rest dimension some start coded =
+    line_of form i reference b row rest (record {
+      dimension = dimension;
+      codes = codes;
+      start = start;
+      first_code = row_begins dimension form.width reference codes row rest some coded;
+      coded = coded;
+    })

@@ -19,7 +19,7 @@ use Rattle.fax_page.specs.declared.StripForm.{StripForm}
 use Rattle.fax_page.specs.declared.StripFault.TheVariants.{DataEnds, EndMarker}
 use Rattle.fax_page.specs.Lines.{NextOne, ends_line, in_code, next_one, not_there, read_start, start_by, IsLine}
 use Rattle.fax_page.specs.Lines.{check_first, first_bits, codes_after, read_codes, read_line, strip_fault}
-use Rattle.fax_page.specs.Strip.{AreLines}
+use Rattle.fax_page.specs.laws.Lines.{AreLines}
 use Rattle.fax_page.specs.code.Starts.{BeginsBelowEleven, IsEndOfLine}
 use Rattle.fax_page.specs.laws.Following.{ReadsInPieces, StaysWhateverFollows}
 use Rattle.fax_page.specs.laws.Writer.{last_of}

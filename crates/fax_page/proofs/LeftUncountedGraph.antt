@@ -10,16 +10,15 @@ use Rattle.fax_page.specs.declared.StripFault.{StripFault}
 use Rattle.fax_page.specs.declared.StripFault.TheVariants.{MissingEol}
 use Rattle.fax_page.specs.declared.StripForm.{StripForm}
 use Rattle.fax_page.specs.Lines.{white_row}
-use Rattle.fax_page.specs.Uncounted.{RowsEndAs}
+use Rattle.fax_page.specs.Uncounted.{rows_end}
 use Rattle.fax_page.specs.Salvage.{IsReadFrom, SalvagedRow, found, lost, resync_point, resync_from, unended}
 use Rattle.fax_page.specs.LeftUncounted.{AreLeftUncounted, ResumesUncounted, IsEndBefore, HasNextRow}
 use Rattle.fax_page.specs.Lines.{read_start}
 use Rattle.fax_page.specs.reads.Salvage.{is_unterminated, read_over}
-use Rattle.fax_page.specs.reads.Uncounted.{rows_end}
 use Rattle.fax_page.specs.reads.Salvage.{RowsAndEnd, before_rows, end_or_row, salvage_uncounted}
 use Rattle.fax_page.specs.reads.Salvage.{uncounted_after_lost, uncounted_from_eol, uncounted_row}
 use Rattle.fax_bits.specs.Reading.{read, failed}
-use Rattle.fax_page.proofs.EndGraph.{end_is, end_of}
+use Rattle.fax_page.proofs.EndGraph.{is_end}
 use Rattle.fax_page.proofs.SalvageGraph.{IsOver, Line, lacks, lacks_where, lost_of, over_is, over_of}
 
 abbrev More : Type 0
@@ -41,21 +40,21 @@ module _ (n : ℕ) (form : StripForm) (i : ℕ) (b : List Bool) (more : More) (u
     (are : (before : Option StripFault) (row : List Colour) (rest : List Bool)
     → 0 < n → Are form (i + 1) before row rest (more before row rest)) where
   goes_on : (fault : StripFault) → GoesOn form i b fault (uncounted_after_lost n form i b more fault)
-  goes_on fault = at_due n upcoming are (resync_point form.coding from) refl
+  goes_on fault = at_upcoming n upcoming are (resync_point form.coding from) refl
     where
       from : List Bool
       from = resync_from b (read_start form.coding i b)
 
-      at_due : (m : ℕ) → i + suc m ≡ form.rows
+      at_upcoming : (m : ℕ) → i + suc m ≡ form.rows
           → ((before : Option StripFault) (row : List Colour) (rest : List Bool)
           → 0 < m → Are form (i + 1) before row rest (more before row rest))
           → (o : Option (List Bool)) → resync_point form.coding from ≡ o
           → GoesOn form i b fault (uncounted_from_eol m form more fault o)
-      at_due zero count are None is = (from, refl, inl (inl is, refl, refl))
-      at_due zero count are (Some at) is =
+      at_upcoming zero count are None is = (from, refl, inl (inl is, refl, refl))
+      at_upcoming zero count are (Some at) is =
           (from, refl, inl (inr (omega (arith, count)), refl, refl))
-      at_due (suc m) count are None is = (from, refl, inl (inl is, refl, refl))
-      at_due (suc m) count are (Some at) is = (
+      at_upcoming (suc m) count are None is = (from, refl, inl (inl is, refl, refl))
+      at_upcoming (suc m) count are (Some at) is = (
         from,
         refl,
         inr (at, is, omega (arith, count), are (Some fault) (white_row form.width) at (omega arith)),
@@ -90,21 +89,27 @@ module _ (n : ℕ) (form : StripForm) (i : ℕ) (before : Option StripFault) (re
   by_line (read row rest) over = by_end row rest over (is_unterminated form i rest) refl
   by_line (failed fault) cause = (upcoming, cause, after fault)
 
+-- where none is in the way, rows do not end with a fault
+no_fault : (form : StripForm) (i : ℕ) (b : List Bool) (fault : StripFault)
+    → rows_end form.coding i b None ≡ Fault fault → ⊥
+no_fault form i b fault ends =
+    let none : None ≡ Some fault = (is_end form.coding i b None (Fault fault) ends).2 in cc none
+
 -- the rows end, or one is expected
 by_end_before : (form : StripForm) (i : ℕ) (before : Option StripFault) (reference : List Colour) (b : List Bool)
-    (row : RowsAndEnd) (end : RowsEnd) → RowsEndAs form.coding i b None end → i < form.rows
+    (row : RowsAndEnd) (end : RowsEnd) → rows_end form.coding i b None ≡ end → i < form.rows
     → (HasNextRow form i b → Are form i before reference b row) → Are form i before reference b (end_or_row end row)
 by_end_before form i before reference b row Marked ends low later = (ends, λ many. cc)
 by_end_before form i before reference b row DataEnd ends low later = (ends, λ many. cc)
-by_end_before form i before reference b row (Fault fault) ends low later = absurd (let none = ends.2 in cc)
-by_end_before form i before reference b row TooMany ends low later = later (low, ends.0, ends.1)
+by_end_before form i before reference b row (Fault fault) ends low later = absurd (no_fault form i b fault ends)
+by_end_before form i before reference b row TooMany ends low later = later (low, ends)
 
 pub left_are : (n : ℕ) (form : StripForm) (i : ℕ) (before : Option StripFault) (reference : List Colour)
     (b : List Bool) → i + n ≡ form.rows
     → Are form i before reference b (salvage_uncounted n form i before reference b)
-left_are zero form i before reference b count = (end_is form.coding i b None, λ many. omega (arith, count))
+left_are zero form i before reference b count = (refl, λ many. omega (arith, count))
 left_are (suc n) form i before reference b count =
-    by_end_before form i before reference b _ (rows_end form.coding i b None) (end_is form.coding i b None)
+    by_end_before form i before reference b _ (rows_end form.coding i b None) refl
     (omega (arith, count))
     (λ upcoming. by_line n form i before reference b
     (λ before row rest. salvage_uncounted n form (i + 1) before row rest) count upcoming
@@ -116,7 +121,7 @@ ended_of : (form : StripForm) (i : ℕ) (b : List Bool) (row : RowsAndEnd) (end 
     → IsEndBefore form i b end → end_or_row end row ≡ ([], end)
 ended_of form i b row Marked low ended = refl
 ended_of form i b row DataEnd low ended = refl
-ended_of form i b row (Fault fault) low ended = absurd (let none = ended.0.2 in cc)
+ended_of form i b row (Fault fault) low ended = absurd (no_fault form i b fault ended.0)
 ended_of form i b row TooMany low ended = absurd (omega (arith, low, ended.1 refl))
 
 -- what follows a lost row
@@ -145,7 +150,7 @@ after_of n form i b fault rows end count later (from, sought, after) =
     by zero count later o at (inl (_, none, ends)) = cc (none, ends)
     by zero count later o at (inr (upcoming, some, low, are)) = absurd (omega (arith, count, low))
     by (suc m) count later None at (inl (_, none, ends)) = cc (none, ends)
-    by (suc m) count later (Some upcoming) at (inl (inl no_due, none, ends)) = absurd (cc (at, no_due))
+    by (suc m) count later (Some upcoming) at (inl (inl no_upcoming, none, ends)) = absurd (cc (at, no_upcoming))
     by (suc m) count later (Some upcoming) at (inl (inr last, none, ends)) = absurd (omega (arith, count, last))
     by (suc m) count later None at (inr (upcoming, some, low, are)) = absurd (cc (at, some))
     by (suc m) count later (Some other) at (inr (upcoming, some, low, are)) =
@@ -155,14 +160,14 @@ after_of n form i b fault rows end count later (from, sought, after) =
         end) is are)
 
 -- the next row is read
-due_of : (n : ℕ) (form : StripForm) (i : ℕ) (before : Option StripFault) (reference : List Colour) (b : List Bool)
+upcoming_of : (n : ℕ) (form : StripForm) (i : ℕ) (before : Option StripFault) (reference : List Colour) (b : List Bool)
     (r : Line) → HasNextRow form i b → read_over form i before reference b ≡ r
     → salvage_uncounted (suc n) form i before reference b
     ≡ uncounted_row n form i b (λ before row rest. salvage_uncounted n form (i + 1) before row rest) r
-due_of n form i before reference b r upcoming is =
+upcoming_of n form i before reference b r upcoming is =
     let more : More = λ before row rest. salvage_uncounted n form (i + 1) before row rest in
     ap (λ end. end_or_row end (uncounted_row n form i b more (read_over form i before reference b)))
-    (end_of form.coding i b None TooMany (upcoming.1, upcoming.2, refl))
+    upcoming.1
     ∙ ap (uncounted_row n form i b more) is
 
 pub left_of : (n : ℕ) (form : StripForm) (i : ℕ) (before : Option StripFault) (reference : List Colour)
@@ -170,31 +175,31 @@ pub left_of : (n : ℕ) (form : StripForm) (i : ℕ) (before : Option StripFault
     → AreLeftUncounted form i before reference b rows end
     → salvage_uncounted n form i before reference b ≡ (rows, end)
 left_of zero form i before reference b [] end count are =
-    ap (λ ends. ([], ends)) (end_of form.coding i b None end are.0)
+    ap (λ ends. ([], ends)) are.0
 left_of zero form i before reference b (found row ∷ rows) end count are = absurd (omega (arith, count, are.1.0))
 left_of zero form i before reference b (lost fault ∷ rows) end count are = absurd (omega (arith, count, are.0.0))
 left_of zero form i before reference b (unended row ∷ rows) end count are = absurd (omega (arith, count, are.1.0))
 left_of (suc n) form i before reference b [] end count are =
     let more : More = λ before row rest. salvage_uncounted n form (i + 1) before row rest in
     let row = uncounted_row n form i b more (read_over form i before reference b) in
-    ap (λ ends. end_or_row ends row) (end_of form.coding i b None end are.0)
+    ap (λ ends. end_or_row ends row) are.0
     ∙ ended_of form i b row end (omega (arith, count)) are
 left_of (suc n) form i before reference b (found row ∷ rows) end count (rest, upcoming, over, ended, are) =
     let more : More = λ before row rest. salvage_uncounted n form (i + 1) before row rest in
     let none = is_false (is_unterminated form i rest) (λ is. let missing = lacks_where form i rest is in
     ended missing.0 missing.1) in
-    due_of n form i before reference b (read row rest) upcoming (over_of form i before reference b row rest over)
+    upcoming_of n form i before reference b (read row rest) upcoming (over_of form i before reference b row rest over)
     ∙ ap (λ missing. if missing then before_rows (unended row) (uncounted_after_lost n form i b more MissingEol)
     else before_rows (found row) (more None row rest)) none
     ∙ ap (before_rows (found row)) (left_of n form (i + 1) None row rest rows end (omega (arith, count)) are)
 left_of (suc n) form i before reference b (lost fault ∷ rows) end count (upcoming, is, after) =
-    due_of n form i before reference b (failed fault) upcoming (lost_of form i before reference b fault is)
+    upcoming_of n form i before reference b (failed fault) upcoming (lost_of form i before reference b fault is)
     ∙ ap (before_rows (lost fault)) (after_of n form i b fault rows end count
     (λ at are. left_of n form (i + 1) (Some fault) (white_row form.width) at rows end (omega (arith, count)) are)
     after)
 left_of (suc n) form i before reference b (unended row ∷ rows) end count (rest, upcoming, over, eol, below, after) =
     let more : More = λ before row rest. salvage_uncounted n form (i + 1) before row rest in
-    due_of n form i before reference b (read row rest) upcoming (over_of form i before reference b row rest over)
+    upcoming_of n form i before reference b (read row rest) upcoming (over_of form i before reference b row rest over)
     ∙ ap (λ missing. if missing then before_rows (unended row) (uncounted_after_lost n form i b more MissingEol)
     else before_rows (found row) (more None row rest)) (lacks form i rest eol below)
     ∙ ap (before_rows (unended row)) (after_of n form i b MissingEol rows end count

@@ -65,14 +65,14 @@ module _ (salvages : SalvagesStripsOneWay) where
       let rest = later upcoming are in
       (rest.0, (from, sought, rw some rest.1))
   after_lost form i b fault rows end low later (from, sought, inl (none, is, ends)) =
-      let rest = at_due (resync_point form.coding from) in
+      let rest = at_upcoming (resync_point form.coding from) in
       (rest.0, (from, sought, rw is rest.1))
     where
-      at_due : (o : Option (List Bool)) → (others : List SalvagedRow) × MatchOption o
+      at_upcoming : (o : Option (List Bool)) → (others : List SalvagedRow) × MatchOption o
           (others ≡ replicate (form.rows - (i + 1)) (lost fault))
           (λ upcoming. AreSalvaged form (i + 1) (Some fault) (white_row form.width) upcoming others)
-      at_due None = (replicate (form.rows - (i + 1)) (lost fault), refl)
-      at_due (Some upcoming) =
+      at_upcoming None = (replicate (form.rows - (i + 1)) (lost fault), refl)
+      at_upcoming (Some upcoming) =
           let rest = salvages form (i + 1) (Some fault) (white_row form.width) upcoming (omega (arith, low)) in
           (rest.rows, rest.are)
 

@@ -9,7 +9,7 @@ use Rattle.fax_page.specs.declared.salvage_reader.Salvaged.{Salvaged}
 use Rattle.fax_page.specs.declared.salvage_reader.Salvaged.TheVariants.{Found, Lost, Unterminated}
 use Rattle.fax_page.specs.Lines.{StripFault, StripForm, white_row}
 use Rattle.fax_page.specs.Strip.{most_rows}
-use Rattle.fax_page.specs.Uncounted.{RowsEndAs, Fault, RowsEnd, TooMany}
+use Rattle.fax_page.specs.Uncounted.{Fault, RowsEnd, TooMany, rows_end}
 use Rattle.fax_page.specs.Salvage.{SalvagedRow, found, lost, resync_point, unended}
 use Rattle.fax_page.specs.LeftUncounted.{AreLeftUncounted, ResumesUncounted, HasNextRow}
 use Rattle.fax_page.specs.views.Salvage.{IsAfterLost, IsSalvageStep, SalvageState}
@@ -18,14 +18,12 @@ use Rattle.fax_page.specs.views.LeftUncounted.{UncountedState}
 use Rattle.fax_page.specs.code.LeftUncounted.{HasPassed, IsGoingThrough, IsOverAfter, alone, fault_of}
 
 -- the next row is one of the strip, and the rows do not end before it
-pub is_due : (strip : SalvageState) (salvaged : Salvaged) (new : SalvageState) (end : RowsEnd)
-    → RowsEndAs strip.form.coding strip.row strip.upcoming None end → end ≡ TooMany
+pub is_upcoming : (strip : SalvageState) (salvaged : Salvaged) (new : SalvageState) (end : RowsEnd)
+    → end ≡ rows_end strip.form.coding strip.row strip.upcoming None → end ≡ TooMany
     → IsSalvageStep strip (Some salvaged) new → HasNextRow strip.form strip.row strip.upcoming
-is_due strip Found new end ends many step = let none = rw many at ends in (step.upcoming, none.0, none.1)
-is_due strip (Lost fault rows) new end ends many step = let none = rw many at ends in (step.0, none.0, none.1)
-is_due strip (Unterminated rows) new end ends many step =
-    let none = rw many at ends in
-    (omega (arith, step.3.1), none.0, none.1)
+is_upcoming strip Found new end ends many step = (step.upcoming, sym ends ∙ many)
+is_upcoming strip (Lost fault rows) new end ends many step = (step.0, sym ends ∙ many)
+is_upcoming strip (Unterminated rows) new end ends many step = (omega (arith, step.3.1), sym ends ∙ many)
 
 module _ (strip new : SalvageState) (row : ℕ) (over : Option StripFault) (row_is : row ≡ strip.row)
     (most : strip.form.rows ≡ most_rows) (upcoming : HasNextRow strip.form strip.row strip.upcoming) where
@@ -34,6 +32,10 @@ module _ (strip new : SalvageState) (row : ℕ) (over : Option StripFault) (row_
 
   abbrev new_state : UncountedState
   new_state = record { strip = new; row = row + 1; over = over }
+
+  here : (strip.row < strip.form.rows) × (rows_end strip.form.coding row strip.upcoming None ≡ TooMany)
+  here =
+      (upcoming.0, subst (λ n. rows_end strip.form.coding n strip.upcoming None ≡ TooMany) (sym row_is) upcoming.1)
 
   -- the rows end with this fault, if with one, where a strip has no more rows
   abbrev pub IsOver : Option StripFault → Type 0
@@ -45,7 +47,7 @@ module _ (strip new : SalvageState) (row : ℕ) (over : Option StripFault) (row_
       → ResumesUncounted strip.form strip.row strip.upcoming fault
       (λ at. AreLeftUncounted strip.form (strip.row + 1) (Some fault) (white_row strip.form.width) at rows end) rows end
   goes_on fault count (from, sought, after) is_over rows end are =
-      (from, sought, at_due (resync_point strip.form.coding from) after is_over)
+      (from, sought, at_upcoming (resync_point strip.form.coding from) after is_over)
     where
       After : Option (List Bool) → Type 0
       After o =
@@ -68,14 +70,14 @@ module _ (strip new : SalvageState) (row : ℕ) (over : Option StripFault) (row_
       ended : over ≡ Some fault → (rows ≡ []) × (end ≡ Fault fault)
       ended is = rw is at are
 
-      at_due : (o : Option (List Bool)) → After o → IsOver (Some fault) → Goes o
-      at_due None all (inl (last, over_is)) = let e = ended over_is in inl (inl refl, e.0, e.1)
-      at_due None all (inr (more, over_is)) = absurd (more (all.2 ∙ most))
-      at_due (Some at) one (inl (last, over_is)) =
+      at_upcoming : (o : Option (List Bool)) → After o → IsOver (Some fault) → Goes o
+      at_upcoming None all (inl (last, over_is)) = let e = ended over_is in inl (inl refl, e.0, e.1)
+      at_upcoming None all (inr (more, over_is)) = absurd (more (all.2 ∙ most))
+      at_upcoming (Some at) one (inl (last, over_is)) =
           let e = ended over_is in
           let row_next : new.row ≡ strip.row + 1 = ap (λ (s : SalvageState). s.row) one.1 in
           inl (inr (sym row_next ∙ last ∙ sym most), e.0, e.1)
-      at_due (Some at) one (inr (more, over_is)) =
+      at_upcoming (Some at) one (inr (more, over_is)) =
           let row_next : new.row ≡ strip.row + 1 = ap (λ (s : SalvageState). s.row) one.1 in
           let remaining = rw (over_is, one.1) at are in
           inr (at, refl, low row_next more, rw row_is at remaining)
@@ -87,9 +89,9 @@ module _ (strip new : SalvageState) (row : ℕ) (over : Option StripFault) (row_
           ]
 
   form_after : (fault : StripFault) (count : ℕ) → IsAfterLost strip fault count new → new.form ≡ strip.form
-  form_after fault count (from, sought, after) = at_due (resync_point strip.form.coding from) after
+  form_after fault count (from, sought, after) = at_upcoming (resync_point strip.form.coding from) after
     where
-      at_due : (o : Option (List Bool))
+      at_upcoming : (o : Option (List Bool))
           → MatchOption o
           ((count ≡ strip.form.rows - strip.row) × (new.form ≡ strip.form) × (new.row ≡ strip.form.rows))
           (λ at. (count ≡ 1) × (new ≡ record {
@@ -99,8 +101,8 @@ module _ (strip new : SalvageState) (row : ℕ) (over : Option StripFault) (row_
             reference = white_row strip.form.width;
             before = Some fault;
           })) → new.form ≡ strip.form
-      at_due None all = all.1
-      at_due (Some at) one = ap (λ (s : SalvageState). s.form) one.1
+      at_upcoming None all = all.1
+      at_upcoming (Some at) one = ap (λ (s : SalvageState). s.form) one.1
 
   -- the form stays
   pub same_after : (salvaged : Salvaged) → IsSalvageStep strip (Some salvaged) new → new.form ≡ strip.form
@@ -122,7 +124,7 @@ module _ (strip new : SalvageState) (row : ℕ) (over : Option StripFault) (row_
     within = in_form form_same;
     followed = λ rows end are.
         let own = rw (no_fault is_over, form_same, none, row_is) at are in
-        rw row_is (new.upcoming, upcoming, finds.read, finds.ended, own);
+        rw row_is (new.upcoming, here, finds.read, finds.ended, own);
   }
     where
       form_same : new.form ≡ strip.form
@@ -140,7 +142,7 @@ module _ (strip new : SalvageState) (row : ℕ) (over : Option StripFault) (row_
       same_form = form_after fault count after;
       next = refl;
       within = in_form (form_after fault count after);
-      followed = λ rows end are. rw row_is (upcoming, is, goes_on fault count after is_over rows end are);
+      followed = λ rows end are. rw row_is (here, is, goes_on fault count after is_over rows end are);
     },
   )
   passes (Unterminated count) (pels, rest, read, eol, below, after) is_over = (
@@ -151,7 +153,7 @@ module _ (strip new : SalvageState) (row : ℕ) (over : Option StripFault) (row_
       next = refl;
       within = in_form (form_after MissingEol count after);
       followed = λ rows end are.
-          rw row_is (rest, upcoming, read, eol, below, goes_on MissingEol count after is_over rows end are);
+          rw row_is (rest, here, read, eol, below, goes_on MissingEol count after is_over rows end are);
     },
   )
 
@@ -180,9 +182,9 @@ still_going strip new row salvaged over most row_is step same low is_over = reco
   where
     next_is : (fault : StripFault) (count : ℕ) → IsAfterLost strip fault count new → new.row ≢ most_rows
         → row + 1 ≡ new.row
-    next_is fault count (from, sought, after) more = at_due (resync_point strip.form.coding from) after
+    next_is fault count (from, sought, after) more = at_upcoming (resync_point strip.form.coding from) after
       where
-        at_due : (o : Option (List Bool))
+        at_upcoming : (o : Option (List Bool))
             → MatchOption o
             ((count ≡ strip.form.rows - strip.row) × (new.form ≡ strip.form) × (new.row ≡ strip.form.rows))
             (λ at. (count ≡ 1) × (new ≡ record {
@@ -192,8 +194,8 @@ still_going strip new row salvaged over most row_is step same low is_over = reco
               reference = white_row strip.form.width;
               before = Some fault;
             })) → row + 1 ≡ new.row
-        at_due None all = absurd (more (all.2 ∙ most))
-        at_due (Some at) one =
+        at_upcoming None all = absurd (more (all.2 ∙ most))
+        at_upcoming (Some at) one =
             let row_next : new.row ≡ strip.row + 1 = ap (λ (s : SalvageState). s.row) one.1 in
             omega (arith, row_next, row_is)
 

@@ -10,8 +10,8 @@ use Rattle.fax_page.specs.declared.lines.LineStop.TheVariants.{Codes}
 use Rattle.fax_page.specs.Lines.{Dimension, StripFault, StripForm, IsCause}
 use Rattle.fax_page.specs.code.Starts.{IsStop}
 use Rattle.fax_page.specs.code.LineStops.{IsLineStop}
-use Rattle.fax_page.proofs.BegunLemmas.{cause_in_codes}
-use Rattle.fax_page.proofs.BegunLemmas.{one_begun}
+use Rattle.fax_page.proofs.StartedLemmas.{cause_in_codes}
+use Rattle.fax_page.proofs.StartedLemmas.{one_started}
 
 -- the codes after one start are those after another
 pub in_codes : (form : StripForm) (i : ℕ) (reference : List Colour) (b : List Bool) (cause : RowFault)
@@ -19,7 +19,7 @@ pub in_codes : (form : StripForm) (i : ℕ) (reference : List Colour) (b : List 
     → IsStart form.coding i b (read dimension codes) → (fault : StripFault) → IsStop codes cause fault
     → IsCause form i reference b fault
 in_codes form i reference b cause (first, others, origin, stops) dimension codes again fault stop =
-    let same = one_begun form.coding i b first dimension others codes origin again in
+    let same = one_started form.coding i b first dimension others codes origin again in
     cause_in_codes form i reference b dimension codes cause fault again stop (rw (same.0, same.1) at stops)
 
 -- a source that is made anew has the bits of the one that stood there

@@ -19,8 +19,8 @@ use Rattle.fax_page.specs.declared.StripFault.{StripFault}
 use Rattle.fax_page.specs.declared.StripFault.TheVariants.{DataEnds}
 use Rattle.fax_page.specs.declared.uncounted.RtcEol.TheVariants.{Cut, Other, Whole}
 use Rattle.fax_page.specs.Lines.{not_there}
-use Rattle.fax_page.specs.Strip.{AreRtcEols, IsRtcEol, end_bits, eol_bits}
-use Rattle.fax_page.specs.Uncounted.{MayHaveEndMark}
+use Rattle.fax_page.specs.Strip.{end_bits, eol_bits}
+use Rattle.fax_page.specs.code.Ends.{AreRtcEols, IsRtcEol, MayBeMarked}
 use Rattle.fax_page.specs.code.Notes.{AreEolsTaken, IsMarkEol, MayHaveReturn}
 use Rattle.fax_page.specs.code.Starts.{HasEol, HasNoEol}
 use Rattle.fax_page.proofs.EndFollowingLaws.{eols_stay, return_eol_stays}
@@ -166,12 +166,12 @@ module _ (coding : Coding) (other : coding ≢ Mmr) (b ahead : List Bool) (i : �
   )
 
 -- a return to control is the end mark of MH and MR
-pub may_have_mark : (coding : Coding) (b : List Bool) → coding ≢ Mmr → MayHaveReturn coding b → MayHaveEndMark coding b
+pub may_have_mark : (coding : Coding) (b : List Bool) → coding ≢ Mmr → MayHaveReturn coding b → MayBeMarked coding b
 may_have_mark Mh b other may = (may.0, (may.1, may.2))
 may_have_mark Mr b other may = (may.0, (may.1, may.2))
 may_have_mark Mmr b other may = absurd (other refl)
 
-pub may_have_return : (coding : Coding) (b : List Bool) → coding ≢ Mmr → MayHaveEndMark coding b
+pub may_have_return : (coding : Coding) (b : List Bool) → coding ≢ Mmr → MayBeMarked coding b
     → MayHaveReturn coding b
 may_have_return Mh b other may = (may.0, may.1.0, may.1.1)
 may_have_return Mr b other may = (may.0, may.1.0, may.1.1)
@@ -208,7 +208,7 @@ module _ (b : List Bool) where
   few_there : bits_there ≤ 24
   few_there = omega arith
 
-  pub may_be_block : (rest : List Bool) → b ≡ code_bits bits_there (front bits_there) ++ rest → MayHaveEndMark Mmr b
+  pub may_be_block : (rest : List Bool) → b ≡ code_bits bits_there (front bits_there) ++ rest → MayBeMarked Mmr b
   may_be_block rest is =
       let n = bits_there in
       let low = code_bits (24 - n) (4097 % 2 ^ (24 - n)) in
@@ -231,7 +231,7 @@ module _ (b : List Bool) where
             )
       ]
 
-  pub begins_block : MayHaveEndMark Mmr b → StartsWith b (code_bits bits_there (front bits_there))
+  pub begins_block : MayBeMarked Mmr b → StartsWith b (code_bits bits_there (front bits_there))
   begins_block (more, (rest, is)) =
       let n = bits_there in
       let code = code_bits n (front n) in
@@ -247,19 +247,13 @@ module _ (b : List Bool) where
 
 -- the same as the program finds it
 pub block_found : (coding : Coding) (b ahead rest : List Bool) (n : ℕ) → coding ≡ Mmr → b ≡ ahead
-    → n ≡ min (length b) 24 → IsTaken (code_bits n (front n)) ahead true rest → MayHaveEndMark coding b
+    → n ≡ min (length b) 24 → IsTaken (code_bits n (front n)) ahead true rest → MayBeMarked coding b
 block_found coding b ahead rest n is same count taken =
-    subst (λ c. MayHaveEndMark c b) (sym is)
+    subst (λ c. MayBeMarked c b) (sym is)
     (may_be_block b rest (same ∙ taken ∙ ap (λ k. code_bits k (front k) ++ rest) count))
 
 pub block_missing : (coding : Coding) (b ahead rest : List Bool) (n : ℕ) → coding ≡ Mmr → b ≡ ahead
-    → n ≡ min (length b) 24 → IsTaken (code_bits n (front n)) ahead false rest → MayHaveEndMark coding b → ⊥
+    → n ≡ min (length b) 24 → IsTaken (code_bits n (front n)) ahead false rest → MayBeMarked coding b → ⊥
 block_missing coding b ahead rest n is same count taken may =
-    let begins = begins_block b (subst (λ c. MayHaveEndMark c b) is may) in
+    let begins = begins_block b (subst (λ c. MayBeMarked c b) is may) in
     taken.1 (begins.0, sym same ∙ begins.1 ∙ ap (λ k. code_bits k (front k) ++ begins.0) (sym count))
-
--- after all bits an end mark may stand
-pub mark_may_follow : (coding : Coding) → MayHaveEndMark coding []
-mark_may_follow Mh = (mark_eols Mh 6, ([], eols_are Mh 6 (λ is. cc)))
-mark_may_follow Mr = (mark_eols Mr 6, ([], eols_are Mr 6 (λ is. cc)))
-mark_may_follow Mmr = (end_bits Mmr, ([], sym (append-nil (end_bits Mmr))))

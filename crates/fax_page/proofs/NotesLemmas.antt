@@ -4,6 +4,8 @@ use Rattle.std.proofs.Common.{◌≡◌, ℕ, ◌+◌, ◌<◌, ◌↔◌, List,
 use Rattle.std.proofs.Common.{◌++◌, length, Bool, true, false, IsTrue, refl, ap}
 use Rattle.std.proofs.Common.{sym, ◌∙◌, subst}
 use Rattle.std.proofs.Common.{arith, append_assoc, append-nil, length-append, inl, inr, Option, Some, None}
+use Rattle.std.proofs.Common.{Ok, Err}
+use Rattle.std.specs.Prelude.{Result}
 use Rattle.fax_bits.specs.declared.Colour.{Colour}
 use Rattle.fax_bits.specs.Bits.{StartsWith}
 use Rattle.fax_rows.specs.laws.Rows.{HasWidth, OneDimensionalBitsAreRead, TwoDimensionalBitsAreRead}
@@ -14,21 +16,23 @@ use Rattle.fax_page.specs.declared.notes.NotesFault.{NotesFault}
 use Rattle.fax_page.specs.declared.notes.NotesFault.TheVariants.{Memory, Strip}
 use Rattle.fax_page.specs.declared.notes.StripNotes.{StripNotes}
 use Rattle.fax_bits.specs.Reading.{read}
-use Rattle.fax_page.specs.Lines.{IsCause, IsLine, read_codes, white_row}
-use Rattle.fax_page.specs.Strip.{AreLines, row_bits, HasOtherCodes, HasNonCanonicalRow, IsNotedAs, most_rows}
-use Rattle.fax_page.specs.views.Strip.{IsStrip, IsNotedUncounted, IsNotesFault}
+use Rattle.fax_page.specs.Lines.{IsLine, read_codes, white_row}
+use Rattle.fax_page.specs.Strip.{StripRead, most_rows, noted, notes_after, row_bits}
+use Rattle.fax_page.specs.views.Strip.{IsNotesFault, IsStripForm, noted_uncounted}
+use Rattle.fax_page.proofs.NoteGraph.{notes_are}
+use Rattle.fax_page.proofs.StripGraph.{strip_of}
 use Rattle.fax_page.proofs.StripLaws.{EndsAt, no_rows}
-use Rattle.fax_page.proofs.UncountedLaws.{all_lines, line_of, of_rows}
-use Rattle.fax_page.specs.Uncounted.{RowsEndAs, uncounted}
+use Rattle.fax_page.specs.Uncounted.{RowsEnd, rows_end, uncounted}
+use Rattle.fax_page.specs.laws.Lines.{AreLines}
 use Rattle.fax_page.specs.declared.notes.UncountedNotes.{UncountedNotes}
 use Rattle.fax_page.specs.laws.Strips.{ReadsLinesOneWay}
 use Rattle.fax_page.specs.code.Notes.{IsChosen}
 use Rattle.fax_page.specs.code.Notes.{AreCodesRead, IsChoiceNoted, AreCodesNoted, IsCodesFault, IsLineNoted}
 use Rattle.fax_page.specs.code.Notes.{IsLineFault, AreRowsRead, AreNotesAfter}
-use Rattle.fax_page.specs.code.Notes.{AreFoundAfter}
-use Rattle.fax_page.proofs.BegunLemmas.{cause_in_codes}
-use Rattle.fax_page.proofs.FirstCodeLemmas.{line_begun}
-use Rattle.fax_page.proofs.BegunLemmas.{one_begun}
+use Rattle.fax_page.specs.code.Notes.{AreFoundAfter, HasNonCanonicalRow, HasOtherCodes}
+use Rattle.fax_page.proofs.StartedLemmas.{cause_in_codes}
+use Rattle.fax_page.proofs.FirstCodeLemmas.{line_started}
+use Rattle.fax_page.proofs.StartedLemmas.{one_started}
 
 -- what follows the codes that T.4 chooses is what follows the row
 module _ (one : OneDimensionalBitsAreRead) (two : TwoDimensionalBitsAreRead) where
@@ -51,7 +55,7 @@ module _ (reads : (form : StripForm) (i : ℕ) (reference : List Colour) → Rea
       → (rest ≡ remaining) × (now ≡ true)
   other_codes form i reference row b rest remaining other now noted line choice =
       let after = ((reads form i reference).line.one_answer b row row rest remaining noted.line line).1 in
-      let start = one_begun form.coding i b _ _ _ _ noted.start choice.2 in (
+      let start = one_started form.coding i b _ _ _ _ noted.start choice.2 in (
         after,
         marks now noted.noted.none (λ is. choice.3 (
             sym start.1 ∙ is ∙ ap (λ (d : Dimension). row_bits d reference row ++ rest) start.0
@@ -127,7 +131,7 @@ pub line_noted : (form : StripForm) (i : ℕ) (reference row : List Colour) (b c
     → AreCodesNoted form dimension reference codes row rest other now
     → IsLineNoted form i reference b row rest other now
 line_noted form i reference row b codes rest dimension other now some start noted = record {
-  line = line_begun form i reference row b codes rest dimension some start noted.coded;
+  line = line_started form i reference row b codes rest dimension some start noted.coded;
   dimension = dimension;
   codes = codes;
   start = start;
@@ -152,49 +156,24 @@ stopped form b remaining i reference other end so_far stop =
     subst (λ rows. AreLines form 0 (white_row form.width) b rows end remaining) (append-nil so_far.before)
     (so_far.lines [] end remaining (no_rows form i reference remaining end stop))
 
--- a row that cannot be read
-fault_met : (form : StripForm) (b remaining : List Bool) (i : ℕ) (reference : List Colour) (other : Bool)
-    (fault : StripFault) (row : ℕ)
-    → i < form.rows → AreRowsRead form b i reference remaining other → row ≡ i
-    → IsCause form i reference remaining fault
-    → (rows : List (List Colour)) × (length rows ≡ row) × IsStrip form b rows (Some fault)
-fault_met form b remaining i reference other fault row upcoming so_far here cause = (
-  so_far.before,
-  so_far.count ∙ sym here,
-  record {
-    remaining = remaining;
-    lines = stopped form b remaining i reference other (Some fault) so_far (
-      upcoming,
-      cause,
-    );
-  },
-)
+-- what is noted of the rows that are read
+abbrev notes_or_fault : StripForm → List Bool → StripRead → Result StripNotes (ℕ × StripFault)
+notes_or_fault form b strip =
+    elim strip.end [
+      | None ↦ Ok (notes_after form b strip.rows strip.remaining)
+      | Some fault ↦ Err (length strip.rows, fault)
+    ]
 
--- or memory was refused
+-- a row that cannot be read; or memory was refused
 pub no_notes : (form : StripForm) (b remaining : List Bool) (i : ℕ) (reference : List Colour) (other : Bool)
     (fault : NotesFault)
     → i < form.rows → AreRowsRead form b i reference remaining other → IsLineFault form i reference remaining fault
     → IsNotesFault form b fault
 no_notes form b remaining i reference other Memory upcoming so_far fault = tt
 no_notes form b remaining i reference other (Strip row fault) upcoming so_far (here, cause) =
-    fault_met form b remaining i reference other fault row upcoming so_far here cause
-
--- the notes on rows that are all of a strip
-noted_after : (form : StripForm) (b remaining : List Bool) (rows : List (List Colour)) (other : Bool) (notes :
-    StripNotes)
-    → AreLines form 0 (white_row form.width) b rows None remaining → AreNotesAfter form.coding remaining other notes
-    → (other ≡ true → HasNonCanonicalRow form 0 (white_row form.width) b rows)
-    → (HasNonCanonicalRow form 0 (white_row form.width) b rows → other ≡ true) → IsNotedAs form b rows notes
-noted_after form b remaining rows other notes lines ends found none = record {
-  remaining = remaining;
-  lines = lines;
-  after = ends.after;
-  after_end = ends.after_end;
-  no_end_of_block = ends.no_end_of_block;
-  return_to_control = ends.return_to_control;
-  data_after_end = ends.data_after_end;
-  not_t4_choice = (λ is. found (sym ends.other_is ∙ is), λ has. ends.other_is ∙ none has);
-}
+    let lines = stopped form b remaining i reference other (Some fault) so_far (upcoming, cause) in
+    ap (notes_or_fault form b) (strip_of form b so_far.before (Some fault) remaining lines)
+    ∙ ap (λ n. Err (n, fault)) (so_far.count ∙ sym here)
 
 -- whether some row so far is coded otherwise
 other_there : (form : StripForm) (b remaining : List Bool) (i : ℕ) (reference : List Colour) (other : Bool)
@@ -215,72 +194,61 @@ other_found form b remaining i reference other so_far has =
       | inr none ↦ absurd none
     ]
 
--- all rows were read
-pub all_noted : (form : StripForm) (b remaining : List Bool) (i : ℕ) (reference : List Colour) (other : Bool)
-    (notes : StripNotes)
-    → i ≡ form.rows → AreRowsRead form b i reference remaining other → AreNotesAfter form.coding remaining other notes
-    → (rows : List (List Colour)) × IsNotedAs form b rows notes
-all_noted form b remaining i reference other notes all so_far ends = (
-  so_far.before,
-  noted_after form b remaining so_far.before other notes (stopped form b remaining i reference other None so_far all)
-      ends
-      (other_there form b remaining i reference other so_far) (other_found form b remaining i reference other so_far),
-)
+module _ (one : OneDimensionalBitsAreRead) (two : TwoDimensionalBitsAreRead)
+    (reads : (form : StripForm) (i : ℕ) (reference : List Colour) → ReadsLinesOneWay form i reference)
+    (form : StripForm) where
+  -- the notes on the rows so far, where no more follow
+  noted_to : (b remaining : List Bool) (i : ℕ) (reference : List Colour) (other : Bool) (stop : Option StripFault)
+      (notes : StripNotes) → IsStripForm form
+      → (so_far : AreRowsRead form b i reference remaining other)
+      → AreLines form 0 (white_row form.width) b so_far.before stop remaining
+      → AreNotesAfter form.coding remaining other notes → notes ≡ notes_after form b so_far.before remaining
+  noted_to b remaining i reference other stop notes limits so_far lines ends =
+      notes_are one two reads form limits b so_far.before stop remaining other notes lines ends
+      (other_there form b remaining i reference other so_far, other_found form b remaining i reference other so_far)
 
--- other choices are the same in a strip of other rows
-other_choice_of : (form : StripForm) (from to i : ℕ) (reference : List Colour) (b : List Bool)
-    (rows : List (List Colour))
-    → HasNonCanonicalRow (of_rows form from) i reference b rows
-    → HasNonCanonicalRow (of_rows form to) i reference b rows
-other_choice_of form from to i reference b [] has = has
-other_choice_of form from to i reference b (row ∷ rows) has = (
-  has.0,
-  line_of form from to i reference b row has.0 has.1,
-  elim has.2 [
-    | inl other_choice ↦ inl other_choice
-    | inr more ↦ inr (other_choice_of form from to (i + 1) row has.0 rows more)
-  ],
-)
+  -- all rows were read
+  pub all_noted : (b remaining : List Bool) (i : ℕ) (reference : List Colour) (other : Bool) (notes : StripNotes)
+      → IsStripForm form → i ≡ form.rows → AreRowsRead form b i reference remaining other
+      → AreNotesAfter form.coding remaining other notes → noted form b ≡ Ok notes
+  all_noted b remaining i reference other notes limits all so_far ends =
+      let lines = stopped form b remaining i reference other None so_far all in
+      ap (notes_or_fault form b) (strip_of form b so_far.before None remaining lines)
+      ∙ ap Ok (sym (noted_to b remaining i reference other None notes limits so_far lines ends))
 
--- rows of a strip of unknown height were read, and none is after them
-pub uncounted_noted : (form : StripForm) (b remaining : List Bool) (i : ℕ) (reference : List Colour) (other : Bool)
-    (stop : Option StripFault)
-    (found : UncountedNotes) → AreRowsRead (uncounted form) b i reference remaining other
-    → EndsAt (uncounted form) i reference remaining stop
-    → AreFoundAfter form.coding remaining i stop other found → (rows : List (List Colour))
-    × IsNotedUncounted form b rows found
-uncounted_noted form b remaining i reference other stop found so_far stops ends =
-    let rows = so_far.before in
-    let white = white_row form.width in
-    let lines = stopped (uncounted form) b remaining i reference other stop so_far stops in
-    let of_count : IsNotedUncounted form b rows found = record {
-      count = ends.rows_are ∙ sym so_far.count;
-      uncounted = record {
-        remaining = remaining;
-        stop = stop;
-        lines = lines;
-        ends = subst (λ n. RowsEndAs form.coding n remaining stop found.end) (sym so_far.count) ends.end;
-      };
-      noted =
-          noted_after (of_rows form found.rows) b remaining rows other found.notes
-          (all_lines form most_rows found.rows 0 white b rows stop remaining (omega (
-            arith,
-            so_far.count,
-            ends.rows_are,
-          ))
-          lines) ends.notes
-          (λ is. other_choice_of form most_rows found.rows 0 white b rows
-          (other_there (uncounted form) b remaining i reference other so_far is))
-          (λ has. other_found (uncounted form) b remaining i reference other so_far
-          (other_choice_of form found.rows most_rows 0 white b rows has));
-    } in
-    (rows, of_count)
+module _ (one : OneDimensionalBitsAreRead) (two : TwoDimensionalBitsAreRead)
+    (reads : (form : StripForm) (i : ℕ) (reference : List Colour) → ReadsLinesOneWay form i reference)
+    (form : StripForm) (limits : IsStripForm (uncounted form)) where
+  found_as : {a b : ℕ} {c d : RowsEnd} {e f : StripNotes} → a ≡ b → c ≡ d → e ≡ f
+      → ◌≡◌ {A = UncountedNotes} (record { rows = a; end = c; notes = e }) (record { rows = b; end = d; notes = f })
+  found_as rows end notes = cc (rows, end, notes)
 
-pub uncounted_stopped : (form : StripForm) (b remaining : List Bool) (i : ℕ) (reference : List Colour) (other : Bool)
-    (fault : StripFault) (row : ℕ)
-    (found : UncountedNotes) → i < most_rows → AreRowsRead (uncounted form) b i reference remaining other
-    → IsLineFault (uncounted form) i reference remaining (Strip row fault)
-    → AreFoundAfter form.coding remaining i (Some fault) other found
-    → (rows : List (List Colour)) × IsNotedUncounted form b rows found
-uncounted_stopped form b remaining i reference other fault row found upcoming so_far stop ends =
-    uncounted_noted form b remaining i reference other (Some fault) found so_far (upcoming, stop.1) ends
+  abbrev found_of : List Bool → StripRead → UncountedNotes
+  found_of b strip = record {
+    rows = length strip.rows;
+    end = rows_end form.coding (length strip.rows) strip.remaining strip.end;
+    notes = notes_after form b strip.rows strip.remaining;
+  }
+
+  -- rows of a strip of unknown height were read, and none is after them
+  pub uncounted_noted : (b remaining : List Bool) (i : ℕ) (reference : List Colour) (other : Bool)
+      (stop : Option StripFault) (found : UncountedNotes)
+      → AreRowsRead (uncounted form) b i reference remaining other
+      → EndsAt (uncounted form) i reference remaining stop
+      → AreFoundAfter form.coding remaining i stop other found → found ≡ noted_uncounted form b
+  uncounted_noted b remaining i reference other stop found so_far stops ends =
+      let lines = stopped (uncounted form) b remaining i reference other stop so_far stops in
+      let read = strip_of (uncounted form) b so_far.before stop remaining lines in
+      let notes = noted_to one two reads (uncounted form) b remaining i reference other stop found.notes limits so_far
+      lines ends.notes in
+      let count : i ≡ length so_far.before = sym so_far.count in
+      found_as (ends.rows_are ∙ count) (ends.end ∙ ap (λ n. rows_end form.coding n remaining stop) count) notes
+      ∙ sym (ap (found_of b) read)
+
+  pub uncounted_stopped : (b remaining : List Bool) (i : ℕ) (reference : List Colour) (other : Bool)
+      (fault : StripFault) (row : ℕ) (found : UncountedNotes) → i < most_rows
+      → AreRowsRead (uncounted form) b i reference remaining other
+      → IsLineFault (uncounted form) i reference remaining (Strip row fault)
+      → AreFoundAfter form.coding remaining i (Some fault) other found → found ≡ noted_uncounted form b
+  uncounted_stopped b remaining i reference other fault row found upcoming so_far stop ends =
+      uncounted_noted b remaining i reference other (Some fault) found so_far (upcoming, stop.1) ends

@@ -2,7 +2,9 @@
 use Rattle.std.proofs.Common.{arith, ◌≡◌, List, [], ◌∷◌, ◌++◌, Option, Some, None, Err, refl, append_assoc, append-nil}
 use Rattle.fax_bits.specs.declared.Colour.{Colour}
 use Rattle.fax_page.specs.declared.StripFault.{StripFault}
-use Rattle.fax_page.specs.Strip.{AreLines}
+use Rattle.fax_page.specs.laws.Lines.{AreLines}
+use Rattle.fax_bits.specs.Bits.{bits}
+use Rattle.fax_page.proofs.StripGraph.{is_strip}
 use Rattle.fax_page.proofs.StripLaws.{EndsAt, no_rows}
 use Rattle.fax_page.specs.views.Reader.{StripState, bits_left, strip_after, ReadsRow, IsAtEnd, MeetsFault, IsAdvance}
 use Rattle.fax_page.specs.laws.Reader.{HasReadFrom, ReadsRowByRow, StripsAreReadOn}
@@ -60,13 +62,11 @@ read_row_by_row = record {
   };
   goes_on = λ form bytes. row_read_on (strip_after 0 form bytes);
   ends = λ form bytes rows old new so_far at_end.
-      record { remaining = bits_left old; lines = ended_before (strip_after 0 form bytes) rows old new so_far at_end };
+      is_strip form (bits form.order bytes) rows None (bits_left old)
+      (ended_before (strip_after 0 form bytes) rows old new so_far at_end);
   stops = λ form bytes rows old new fault so_far meets.
-      record {
-        remaining = bits_left old;
-        lines = fault_before (strip_after 0 form bytes) rows old new fault so_far
-            meets;
-      };
+      is_strip form (bits form.order bytes) rows (Some fault) (bits_left old)
+      (fault_before (strip_after 0 form bytes) rows old new fault so_far meets);
 }
 
 -- from any place on

@@ -15,11 +15,12 @@ use Rattle.fax_page.specs.Lines.{Mh, Mmr, Mr}
 use Rattle.fax_page.specs.Lines.{StripFault, StripForm, strip_fault, white_row}
 use Rattle.fax_page.specs.Salvage.{AreSalvaged, ResumesAfter, NeedsEol, IsReadFrom, SalvagedRow, after_eol, found}
 use Rattle.fax_page.specs.Salvage.{lost, resync_point, unended}
-use Rattle.fax_page.specs.Strip.{AreLines, eol_bits}
+use Rattle.fax_page.specs.Strip.{eol_bits}
+use Rattle.fax_page.specs.laws.Lines.{AreLines}
 use Rattle.fax_page.specs.laws.Salvage.{FindsRowsBeforeFaults, LostBitsDoNotMatter, SalvagesStripsOneWay}
 use Rattle.fax_page.specs.Lines.{read_start}
 use Rattle.fax_page.specs.Salvage.{resync_from}
-use Rattle.fax_page.proofs.BegunLemmas.{one_start}
+use Rattle.fax_page.proofs.StartedLemmas.{one_start}
 use Rattle.fax_page.proofs.LineParts.{CauseParts, IsStopInCodes, cause_parts}
 use Rattle.fax_page.proofs.SalvageLaws.{begins_with_eol, eol_is_missing, none_begins}
 use Rattle.fax_page.proofs.SalvageLemmas.{at_one}
@@ -106,14 +107,14 @@ module _ (salvages : SalvagesStripsOneWay) where
       (λ upcoming. AreSalvaged form (i + 1) (Some fault) (white_row form.width) upcoming rows) rows
   goes_on form i b fault low =
       let from = resync_from b (read_start form.coding i b) in
-      let rows = at_due (resync_point form.coding from) in
+      let rows = at_upcoming (resync_point form.coding from) in
       (rows.0, (from, refl, rows.1))
     where
-      at_due : (o : Option (List Bool)) → (rows : List SalvagedRow) × MatchOption o
+      at_upcoming : (o : Option (List Bool)) → (rows : List SalvagedRow) × MatchOption o
           (rows ≡ replicate (form.rows - (i + 1)) (lost fault))
           (λ upcoming. AreSalvaged form (i + 1) (Some fault) (white_row form.width) upcoming rows)
-      at_due None = (replicate (form.rows - (i + 1)) (lost fault), refl)
-      at_due (Some upcoming) =
+      at_upcoming None = (replicate (form.rows - (i + 1)) (lost fault), refl)
+      at_upcoming (Some upcoming) =
           let remaining = salvages form (i + 1) (Some fault) (white_row form.width) upcoming (omega (arith, low)) in
           (remaining.rows, remaining.are)
 

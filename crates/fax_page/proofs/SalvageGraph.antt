@@ -101,14 +101,14 @@ abbrev More : Type 0
 More = Option StripFault → List Colour → List Bool → List SalvagedRow
 
 -- the rows after a lost one
-by_due : (n : ℕ) (form : StripForm) (i : ℕ) (more : More) (fault : StripFault) (at : Option (List Bool))
+by_upcoming : (n : ℕ) (form : StripForm) (i : ℕ) (more : More) (fault : StripFault) (at : Option (List Bool))
     → n ≡ form.rows - (i + 1)
     → ((upcoming : List Bool) → AreSalvaged form (i + 1) (Some fault) (white_row form.width) upcoming
     (more (Some fault) (white_row form.width) upcoming))
     → MatchOption at (from_eol n form more fault at ≡ replicate (form.rows - (i + 1)) (lost fault))
     (λ upcoming. AreSalvaged form (i + 1) (Some fault) (white_row form.width) upcoming (from_eol n form more fault at))
-by_due n form i more fault None count are = ap (λ k. replicate k (lost fault)) count
-by_due n form i more fault (Some upcoming) count are = are upcoming
+by_upcoming n form i more fault None count are = ap (λ k. replicate k (lost fault)) count
+by_upcoming n form i more fault (Some upcoming) count are = are upcoming
 
 goes_on : (n : ℕ) (form : StripForm) (i : ℕ) (b : List Bool) (more : More) (fault : StripFault)
     → n ≡ form.rows - (i + 1)
@@ -121,7 +121,7 @@ goes_on : (n : ℕ) (form : StripForm) (i : ℕ) (b : List Bool) (more : More) (
 goes_on n form i b more fault count are = (
   resync_from b (read_start form.coding i b),
   refl,
-  by_due n form i more fault (resync_point form.coding (resync_from b (read_start form.coding i b))) count are,
+  by_upcoming n form i more fault (resync_point form.coding (resync_from b (read_start form.coding i b))) count are,
 )
 
 -- a row and those after it
@@ -215,18 +215,18 @@ after_of : (n : ℕ) (form : StripForm) (i : ℕ) (b : List Bool) (fault : Strip
     → after_lost n form i b (λ before row rest. salvage_rows n form (i + 1) before row rest) fault ≡ rows
 after_of n form i b fault rows count later (from, sought, after) =
     ap (λ f. from_eol n form more fault (resync_point form.coding f)) sought
-    ∙ at_due (resync_point form.coding from) after
+    ∙ at_upcoming (resync_point form.coding from) after
   where
     more : More
     more before row rest = salvage_rows n form (i + 1) before row rest
 
-    at_due : (o : Option (List Bool)) → MatchOption o (rows ≡ replicate (form.rows - (i + 1)) (lost fault))
+    at_upcoming : (o : Option (List Bool)) → MatchOption o (rows ≡ replicate (form.rows - (i + 1)) (lost fault))
         (λ upcoming. AreSalvaged form (i + 1) (Some fault) (white_row form.width) upcoming rows)
         → from_eol n form more fault o ≡ rows
-    at_due None all =
+    at_upcoming None all =
         let many : n ≡ form.rows - (i + 1) = omega (arith, count) in
         ap (λ k. replicate k (lost fault)) many ∙ sym all
-    at_due (Some upcoming) are = later upcoming are
+    at_upcoming (Some upcoming) are = later upcoming are
 
 pub rows_of : (n : ℕ) (form : StripForm) (i : ℕ) (before : Option StripFault) (reference : List Colour)
     (b : List Bool) (rows : List SalvagedRow) → i + n ≡ form.rows → AreSalvaged form i before reference b rows

@@ -1,6 +1,7 @@
 -- What is left of a strip is found and lost in one way, and a strip that is read wholly loses
 -- nothing.
 use Rattle.fax_page.specs.code.Starts.{BeginsBelowEleven}
+use Rattle.fax_page.proofs.StripGraph.{is_strip}
 use Rattle.fax_page.proofs.StartLaws.{IsStart}
 use Rattle.std.proofs.Common.{◌≡◌, ℕ, ◌+◌, ◌-◌, ◌<◌, List, [], ◌∷◌, length, map, replicate, Bool, suc}
 use Rattle.std.proofs.Common.{Option, Some, None, refl, ap, sym, ◌∙◌, arith}
@@ -12,12 +13,12 @@ use Rattle.fax_page.specs.Lines.{Coding, Dimension, Mh, Mmr, Mr, start_by}
 use Rattle.fax_page.specs.Lines.{IsLine, StripFault, StripForm, white_row}
 use Rattle.fax_page.specs.Salvage.{AreSalvaged, ResumesAfter, NeedsEol}
 use Rattle.fax_page.specs.Salvage.{SalvagedRow, found, lost, resync_point, unended}
-use Rattle.fax_page.specs.Strip.{AreLines}
+use Rattle.fax_page.specs.laws.Lines.{AreLines}
 use Rattle.fax_page.specs.laws.Salvage.{FindsWholeStrips, SalvagesStripsOneWay}
 use Rattle.fax_bits.specs.Reading.{read, failed}
 use Rattle.fax_page.proofs.LineParts.{parts}
 use Rattle.fax_page.specs.reads.Salvage.{salvage_rows}
-use Rattle.fax_page.proofs.BegunLemmas.{one_start}
+use Rattle.fax_page.proofs.StartedLemmas.{one_start}
 use Rattle.fax_page.proofs.SalvageGraph.{rows_are, rows_of}
 
 -- ---- as many rows as the strip has
@@ -28,16 +29,16 @@ mutual_count : (form : StripForm) (i : ℕ) (b : List Bool) (fault : StripFault)
     → ResumesAfter form i b fault (λ upcoming. AreSalvaged form (i + 1) (Some fault) (white_row form.width) upcoming
     rows) rows
     → i + 1 + length rows ≡ form.rows
-mutual_count form i b fault rows low later (from, sought, after) = at_due (resync_point form.coding from) after
+mutual_count form i b fault rows low later (from, sought, after) = at_upcoming (resync_point form.coding from) after
   where
-    at_due : (o : Option (List Bool)) → MatchOption o (rows ≡ replicate (form.rows - (i + 1)) (lost fault))
+    at_upcoming : (o : Option (List Bool)) → MatchOption o (rows ≡ replicate (form.rows - (i + 1)) (lost fault))
         (λ upcoming. AreSalvaged form (i + 1) (Some fault) (white_row form.width) upcoming rows)
         → i + 1 + length rows ≡ form.rows
-    at_due None all =
+    at_upcoming None all =
         let count : length rows ≡ form.rows - (i + 1) =
         ap (λ (l : List SalvagedRow). length l) all ∙ length-replicate (form.rows - (i + 1)) (lost fault) in
         omega (arith, count, low)
-    at_due (Some upcoming) are = later upcoming are
+    at_upcoming (Some upcoming) are = later upcoming are
 
 counted : (form : StripForm) (i : ℕ) (before : Option StripFault) (reference : List Colour) (b : List Bool)
     (rows : List SalvagedRow) → AreSalvaged form i before reference b rows → i + length rows ≡ form.rows
@@ -118,4 +119,10 @@ lines_are_all_found form i reference b (row ∷ rows) remaining (rest, low, line
 )
 
 pub whole_strips_are_found : FindsWholeStrips
-whole_strips_are_found = record { whole = all_found_are_lines; all_found = lines_are_all_found }
+whole_strips_are_found = record {
+  strip = λ form b rows is.
+      let lines = all_found_are_lines form 0 (white_row form.width) b rows is in
+      is_strip form b rows None lines.0 lines.1;
+  whole = all_found_are_lines;
+  all_found = lines_are_all_found;
+}

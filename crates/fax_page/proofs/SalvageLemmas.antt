@@ -15,7 +15,7 @@ use Rattle.fax_page.specs.Strip.{eol_bits}
 use Rattle.fax_page.specs.Salvage.{IsTwoDimensionalNext, after_eol, resync_point, resync_from}
 use Rattle.fax_page.specs.declared.StripFault.TheVariants.{DataEnds, MissingEol}
 use Rattle.fax_page.specs.code.Salvage.{IsAmong, IsFirstEol, IsNextEol, IsPassedBy}
-use Rattle.fax_page.proofs.BegunLemmas.{one_begun, one_start}
+use Rattle.fax_page.proofs.StartedLemmas.{one_started, one_start}
 use Rattle.fax_page.proofs.RestLemmas.{start_among}
 use Rattle.fax_page.specs.Lines.{NextOne, next_one, start_by}
 use Rattle.fax_page.proofs.StartLaws.{eol_at, eol_is_not_below, below_is_not_zeros}
@@ -32,11 +32,11 @@ not_below_zeros b all below = below_is_not_zeros b below all
 -- a row is coded in one dimension or in two
 pub not_two : (coding : Coding) (i : ℕ) (b codes : List Bool) → IsStart coding i b (read OneDimensional codes)
     → IsTwoDimensionalNext coding i b → ⊥
-not_two coding i b codes one two = let same = one_begun coding i b _ _ _ _ one two.1 in cc
+not_two coding i b codes one two = let same = one_started coding i b _ _ _ _ one two.1 in cc
 
-pub not_begun : (coding : Coding) (i : ℕ) (b : List Bool) (fault : StripFault) → IsStart coding i b (failed fault)
+pub not_started : (coding : Coding) (i : ℕ) (b : List Bool) (fault : StripFault) → IsStart coding i b (failed fault)
     → IsTwoDimensionalNext coding i b → ⊥
-not_begun coding i b fault stop two = let same = one_start coding i b _ _ stop two.1 in cc
+not_started coding i b fault stop two = let same = one_start coding i b _ _ stop two.1 in cc
 
 -- zeros alone have no EOL among them
 pub no_eol : (n zeros : ℕ) → after_eol n (replicate zeros false) ≡ None
@@ -127,11 +127,11 @@ pub none_left : (source at : Source) → IsPassedBy source at → IsAllZeros at.
 none_left source at passed all = passed.no_eol ∙ ap (after_eol 0) all.1 ∙ no_eol 0 all.0
 
 -- where the next row begins, in MH and MR
-due_is : (coding : Coding) (b : List Bool) → coding ≢ Mmr
+upcoming_is : (coding : Coding) (b : List Bool) → coding ≢ Mmr
     → resync_point coding b ≡ option_map (λ rest. eol_bits ++ rest) (after_eol 0 b)
-due_is Mh b other = refl
-due_is Mr b other = refl
-due_is Mmr b other = absurd (other refl)
+upcoming_is Mh b other = refl
+upcoming_is Mr b other = refl
+upcoming_is Mmr b other = absurd (other refl)
 
 -- a place after so many bits of a source is one of the source
 module _ (coding : Coding) (i : ℕ) (start from : Source) (n : ℕ) (other : coding ≢ Mmr)
@@ -156,7 +156,7 @@ module _ (coding : Coding) (i : ℕ) (start from : Source) (n : ℕ) (other : co
   found_from None none = (
     from.remaining,
     sought,
-    due_is coding from.remaining other
+    upcoming_is coding from.remaining other
         ∙ ap (option_map (λ rest. eol_bits ++ rest)) none,
   )
   found_from (Some place) (rest, some, there) = (
@@ -164,7 +164,7 @@ module _ (coding : Coding) (i : ℕ) (start from : Source) (n : ℕ) (other : co
     sought,
     (
       eol_bits ++ rest,
-      due_is coding from.remaining other
+      upcoming_is coding from.remaining other
           ∙ ap (option_map (λ rest. eol_bits ++ rest)) some,
       among place (eol_bits ++ rest) there,
     ),

@@ -13,7 +13,7 @@ use Rattle.fax_page.specs.declared.salvage_reader.Salvaged.TheVariants.{Found, L
 use Rattle.fax_page.specs.Lines.{Coding, Dimension, Mh, Mr, Mmr, StripFault, StripForm, read_start, white_row}
 use Rattle.fax_page.specs.Strip.{eol_bits}
 use Rattle.fax_page.specs.Salvage.{after_eol, resync_point, resync_from}
-use Rattle.fax_page.specs.laws.Salvage.{DueRowsStandInStrips, IsRestOf}
+use Rattle.fax_page.specs.laws.Salvage.{UpcomingRowsStandInStrips, IsRestOf}
 use Rattle.fax_page.specs.laws.Strips.{ReadsLinesOneWay}
 use Rattle.fax_page.specs.views.Salvage.{IsAfterLost, SalvageState}
 use Rattle.fax_page.proofs.RestLemmas.{start_among}
@@ -70,9 +70,9 @@ eol_among n (true ∷ b) rest some = by_count (eol_among 0 b rest) (cases_lt n 1
         )
 
 -- where the next row begins is among the bits from which its EOL is looked for
-due_among : (coding : Coding) (from upcoming : List Bool) → resync_point coding from ≡ Some upcoming
+upcoming_among : (coding : Coding) (from upcoming : List Bool) → resync_point coding from ≡ Some upcoming
     → IsRestOf from upcoming
-due_among Mh from upcoming some = by_rest (after_eol 0 from) refl some
+upcoming_among Mh from upcoming some = by_rest (after_eol 0 from) refl some
   where
     by_rest : (found : Option (List Bool)) → after_eol 0 from ≡ found
         → option_map (λ rest. eol_bits ++ rest) found ≡ Some upcoming → IsRestOf from upcoming
@@ -80,7 +80,7 @@ due_among Mh from upcoming some = by_rest (after_eol 0 from) refl some
     by_rest (Some rest) is some =
         let same : eol_bits ++ rest ≡ upcoming = cc in
         subst (IsRestOf from) same (eol_among 0 from rest is)
-due_among Mr from upcoming some = by_rest (after_eol 0 from) refl some
+upcoming_among Mr from upcoming some = by_rest (after_eol 0 from) refl some
   where
     by_rest : (found : Option (List Bool)) → after_eol 0 from ≡ found
         → option_map (λ rest. eol_bits ++ rest) found ≡ Some upcoming → IsRestOf from upcoming
@@ -88,7 +88,7 @@ due_among Mr from upcoming some = by_rest (after_eol 0 from) refl some
     by_rest (Some rest) is some =
         let same : eol_bits ++ rest ≡ upcoming = cc in
         subst (IsRestOf from) same (eol_among 0 from rest is)
-due_among Mmr from upcoming some = cc
+upcoming_among Mmr from upcoming some = cc
 
 -- an EOL is looked for among the bits of a lost row
 sought_among : (coding : Coding) (i : ℕ) (b from : List Bool) → IsSoughtFrom coding i b from → IsRestOf b from
@@ -107,9 +107,9 @@ sought_among coding i b from sought = subst (IsRestOf b) sought (by (read_start 
 lost_among : (old new : SalvageState) (fault : StripFault) (rows : ℕ) → IsAfterLost old fault rows new
     → new.row < new.form.rows → IsRestOf old.upcoming new.upcoming
 lost_among old new fault rows (from, sought, after) upcoming =
-    by_due (resync_point old.form.coding from) refl after
+    by_upcoming (resync_point old.form.coding from) refl after
   where
-    by_due : (o : Option (List Bool)) → resync_point old.form.coding from ≡ o
+    by_upcoming : (o : Option (List Bool)) → resync_point old.form.coding from ≡ o
         → MatchOption o
         ((rows ≡ old.form.rows - old.row) × (new.form ≡ old.form) × (new.row ≡ old.form.rows))
         (λ b. (rows ≡ 1) × (new ≡ record {
@@ -120,21 +120,22 @@ lost_among old new fault rows (from, sought, after) upcoming =
           before = Some fault;
         }))
         → IsRestOf old.upcoming new.upcoming
-    by_due None is all =
+    by_upcoming None is all =
         let same : new.form.rows ≡ old.form.rows = ap (λ (f : StripForm). f.rows) all.1 in
         absurd (omega (arith, upcoming, all.2, same))
-    by_due (Some b) is one =
-        let due_is : new.upcoming ≡ b = ap (λ (s : SalvageState). s.upcoming) one.1 in
-        subst (IsRestOf old.upcoming) (sym due_is)
+    by_upcoming (Some b) is one =
+        let upcoming_is : new.upcoming ≡ b = ap (λ (s : SalvageState). s.upcoming) one.1 in
+        subst (IsRestOf old.upcoming) (sym upcoming_is)
         (rest_of_rest old.upcoming from b (sought_among old.form.coding old.row old.upcoming from sought)
-        (due_among old.form.coding from b is))
+        (upcoming_among old.form.coding from b is))
 
 -- after each row
-pub due_rows_stand : ((form : StripForm) (i : ℕ) (reference : List Colour) → ReadsLinesOneWay form i reference)
-    → DueRowsStandInStrips
-due_rows_stand reads old new Found finds upcoming =
+pub upcoming_rows_stand : ((form : StripForm) (i : ℕ) (reference : List Colour) → ReadsLinesOneWay form i reference)
+    → UpcomingRowsStandInStrips
+upcoming_rows_stand reads old new Found finds upcoming =
     (reads old.form old.row old.reference).rest old.upcoming 0 new.reference new.upcoming finds.read.line
-due_rows_stand reads old new (Lost fault rows) (within, is_lost, after) upcoming = lost_among old new fault rows after
+upcoming_rows_stand reads old new (Lost fault rows) (within, is_lost, after) upcoming = lost_among old new fault rows
+    after
     upcoming
-due_rows_stand reads old new (Unterminated rows) (row, rest, over, eol_due, below, after) upcoming =
+upcoming_rows_stand reads old new (Unterminated rows) (row, rest, over, eol_upcoming, below, after) upcoming =
     lost_among old new _ rows after upcoming

@@ -86,11 +86,11 @@ Goes form i fault rows new upcoming =
       before = Some fault;
     })
 
-due_next : (form : StripForm) (i : ℕ) (fault : StripFault) (rows : ℕ) (new : StripState) (upcoming : List Bool)
+upcoming_next : (form : StripForm) (i : ℕ) (fault : StripFault) (rows : ℕ) (new : StripState) (upcoming : List Bool)
     → new.form ≡ form
     → (rows ≡ 1) × (new.row ≡ i + 1) × (new.reference ≡ white_row form.width) × (bits_left new ≡ upcoming)
     → Goes form i fault rows new upcoming
-due_next form i fault rows new upcoming same_form h = grind arith
+upcoming_next form i fault rows new upcoming same_form h = grind arith
 
 -- rows are lost from the next one on
 pub after_lost : (old middle new : StripState) (before : Option StripFault) (fault : StripFault) (rows : ℕ)
@@ -102,5 +102,5 @@ after_lost old middle new before fault rows same passed =
       moved.0,
       moved.1,
       weaker (resync_point old.form.coding moved.0) _ _ _ _ (λ all. (all.0, moved.2, all.1))
-          (λ upcoming is. due_next old.form old.row fault rows new upcoming moved.2 is) moved.4,
+          (λ upcoming is. upcoming_next old.form old.row fault rows new upcoming moved.2 is) moved.4,
     )

@@ -8,14 +8,19 @@ use Rattle.fax_bits.specs.declared.Colour.{Colour}
 use Rattle.fax_page.specs.declared.StripFault.TheVariants.{DataEnds, EndMarker}
 use Rattle.fax_page.specs.Lines.{Coding, IsCause, Mh, Mmr, Mr, StripFault, next_one}
 use Rattle.fax_page.specs.Lines.{StripForm, white_row}
-use Rattle.fax_page.specs.Strip.{AreLines, HasEndMark, eol_bits}
-use Rattle.fax_page.specs.Uncounted.{DataEnd, RowsEndAs, HasDataEnd, IsUncounted, Marked, RowsEnd, uncounted}
+use Rattle.fax_page.specs.Strip.{eol_bits, read_strip}
+use Rattle.fax_page.specs.Uncounted.{DataEnd, Marked, RowsEnd, TooMany, uncounted}
+use Rattle.fax_page.specs.laws.Uncounted.{IsUncounted}
+use Rattle.fax_page.specs.code.Ends.{HasDataEnd, HasEndMark, RowsEndAs}
+use Rattle.fax_page.specs.laws.Lines.{AreLines}
 use Rattle.fax_page.specs.Salvage.{NeedsEol, found}
 use Rattle.fax_page.specs.LeftUncounted.{AreLeftUncounted, IsLeftUncounted}
 use Rattle.fax_page.specs.laws.Strips.{ReadsLinesOneWay}
 use Rattle.fax_page.proofs.EndFollowingLaws.{mark_is_cause, zeros_are_cause}
+use Rattle.fax_page.proofs.EndGraph.{end_of, is_end}
 use Rattle.fax_page.proofs.SalvageLaws.{none_begins}
 use Rattle.fax_page.proofs.StartLaws.{below_is_not_zeros, eol_is_not_below}
+use Rattle.fax_page.proofs.StripGraph.{lines_in}
 
 -- an end mark begins with an EOL
 mark_has_eol : (coding : Coding) (b : List Bool) → HasEndMark coding b → BeginsBelowEleven b → ⊥
@@ -32,8 +37,8 @@ module _ (reads : (form : StripForm) (i : ℕ) (reference : List Colour) → Rea
     (form : StripForm) (end : RowsEnd) where
   ends_here : (i : ℕ) (b : List Bool) → EndsWell form.coding i b end
       → AreLeftUncounted form i None (white_row form.width) b [] end
-  ends_here i b (inl (mark, is)) = rw is (mark, λ many. cc)
-  ends_here i b (inr (ends, is)) = rw is (ends, λ many. cc)
+  ends_here i b (inl (mark, is)) = rw is (end_of form.coding i b None Marked mark, λ many. cc)
+  ends_here i b (inr (ends, is)) = rw is (end_of form.coding i b None DataEnd ends, λ many. cc)
 
   not_lacking : (i : ℕ) (row : List Colour) (rest : List Bool) (rows : List (List Colour)) (stop : Option StripFault)
       (remaining : List Bool) → AreLines form (i + 1) row rest rows stop remaining
@@ -71,11 +76,14 @@ module _ (reads : (form : StripForm) (i : ℕ) (reference : List Colour) → Rea
         rest,
         (
           low,
-          λ mark. none EndMarker (mark_is_cause form i reference b form.coding refl mark),
-          λ data_end. elim (zeros_are_cause form i reference b form.coding refl data_end.1) [
-            | inl ends ↦ none DataEnds ends
-            | inr marker ↦ none EndMarker marker
-          ],
+          end_of form.coding i b None TooMany (
+            λ mark. none EndMarker (mark_is_cause form i reference b form.coding refl mark),
+            λ data_end. elim (zeros_are_cause form i reference b form.coding refl data_end.1) [
+              | inl ends ↦ none DataEnds ends
+              | inr marker ↦ none EndMarker marker
+            ],
+            refl,
+          ),
         ),
         record { line = line; alone = λ lost_before. absurd (lost_before refl) },
         not_lacking i row rest rows stop remaining lines after,
@@ -88,11 +96,14 @@ pub whole_uncounted : ((form : StripForm) (i : ℕ) (reference : List Colour) �
     → IsLeftUncounted (uncounted form) b (map (λ row. found row) rows) end
 whole_uncounted reads form b rows end is good =
     let all : length rows ≡ 0 + length rows = omega arith in
-    all_found reads (uncounted form) end 0 (white_row form.width) b rows is.stop is.remaining is.lines
-    (subst (λ n. EndsWell form.coding n is.remaining end) all (well end is.ends good))
+    let strip = read_strip (uncounted form) b in
+    let ends = is_end form.coding (length rows) strip.remaining strip.end end is.1 in
+    all_found reads (uncounted form) end 0 (white_row form.width) b rows strip.end strip.remaining
+    (lines_in (uncounted form) b rows strip.end (is.0, refl))
+    (subst (λ n. EndsWell form.coding n strip.remaining end) all (well strip.end strip.remaining end ends good))
   where
-    well : (end : RowsEnd) → RowsEndAs form.coding (length rows) is.remaining is.stop end → (end ≡ Marked) ⊎ (end
-        ≡ DataEnd)
-        → EndsWell form.coding (length rows) is.remaining end
-    well end ends (inl marked) = inl ((rw marked at ends), marked)
-    well end ends (inr data_end) = inr ((rw data_end at ends), data_end)
+    well : (stop : Option StripFault) (remaining : List Bool) (end : RowsEnd)
+        → RowsEndAs form.coding (length rows) remaining stop end → (end ≡ Marked) ⊎ (end ≡ DataEnd)
+        → EndsWell form.coding (length rows) remaining end
+    well stop remaining end ends (inl marked) = inl ((rw marked at ends), marked)
+    well stop remaining end ends (inr data_end) = inr ((rw data_end at ends), data_end)

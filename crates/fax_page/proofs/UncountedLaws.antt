@@ -1,4 +1,4 @@
--- Rows of a strip of unknown height are read in one way, where rows are.
+-- Rows of a strip of unknown height.
 use Rattle.fax_page.specs.Lines.{start_by}
 use Rattle.fax_page.proofs.StartLaws.{at_zeros}
 use Rattle.std.proofs.Common.{ap}
@@ -12,48 +12,20 @@ use Rattle.fax_bits.specs.views.Source.{HasLeadingZeros}
 use Rattle.fax_page.specs.declared.Dimension.TheVariants.{TwoDimensional}
 use Rattle.fax_page.specs.declared.StripFault.TheVariants.{DataEnds, EndMarker}
 use Rattle.fax_page.specs.Lines.{Coding, Mh, Mr, Mmr, StripFault, StripForm, IsCause, IsLine, white_row}
-use Rattle.fax_page.specs.Strip.{AreLines, end_bits, eol_bits, most_rows}
-use Rattle.fax_page.specs.Uncounted.{RowsEndAs, IsUncounted}
-use Rattle.fax_page.specs.Uncounted.{uncounted}
-use Rattle.fax_page.specs.laws.StripGraphs.{EndsAreToldByAFunction, StripsAreReadByFunctions}
-use Rattle.fax_page.specs.reads.Lines.{StripRead, read_strip}
-use Rattle.fax_page.specs.reads.Uncounted.{rows_end}
-use Rattle.fax_page.specs.laws.Uncounted.{ReadsUncountedOneWay, UncountedRowsAreAStrip, written_end}
+use Rattle.fax_page.specs.Strip.{StripRead, end_bits, eol_bits, most_rows, read_strip}
+use Rattle.fax_page.specs.Uncounted.{rows_end, uncounted}
+use Rattle.fax_page.specs.laws.Uncounted.{IsUncounted}
+use Rattle.fax_page.specs.code.Ends.{RowsEndAs}
+use Rattle.fax_page.specs.laws.Lines.{AreLines}
+use Rattle.fax_page.specs.laws.Uncounted.{UncountedRowsAreAStrip, written_end}
+use Rattle.fax_page.proofs.EndGraph.{end_of}
 use Rattle.fax_page.proofs.LineParts.{cause_of}
 use Rattle.fax_page.proofs.StartLaws.{no_one}
-use Rattle.fax_page.proofs.StripLaws.{one_strip, strip_is}
+use Rattle.fax_page.proofs.StripGraph.{is_strip, lines_in, strip_of}
 
 -- a 1 is not in zeros
 pub one_is_not_zeros : (b : List Bool) (zeros : ℕ) → HasLeadingZeros b zeros → IsAllZeros b → ⊥
 one_is_not_zeros b zeros ahead all = no_one zeros all.0 ahead.0 (sym ahead.1 ∙ all.1)
-
-module _ (strips : StripsAreReadByFunctions) (ended : EndsAreToldByAFunction) where
-  -- any bits are read in one way as rows of a strip of unknown height
-  pub uncounted_reads_one_way : (form : StripForm) → ReadsUncountedOneWay form
-  uncounted_reads_one_way form b = record {
-    items = read.rows;
-    end = rows_end form.coding (length read.rows) read.remaining read.end;
-    is = record {
-      remaining = read.remaining;
-      stop = read.end;
-      lines = strip_is strips (uncounted form) b;
-      ends = (ended form.coding (length read.rows) read.remaining read.end _).1 refl;
-    };
-    one = λ others other is.
-        let same = one_strip strips (uncounted form) b others read.rows is.stop read.end is.remaining read.remaining
-        is.lines
-        (strip_is strips (uncounted form) b) in
-        let told = (ended form.coding (length others) is.remaining is.stop other).0 is.ends in
-        (same.0, sym told ∙ same_end others read.rows is.stop read.end is.remaining read.remaining same);
-  }
-    where
-      read : StripRead
-      read = read_strip (uncounted form) b
-
-      same_end : (rows others : List (List Colour)) (stop end : Option StripFault) (remaining after : List Bool)
-          → (rows ≡ others) × (stop ≡ end) × (remaining ≡ after)
-          → rows_end form.coding (length rows) remaining stop ≡ rows_end form.coding (length others) after end
-      same_end rows others stop end remaining after same = cc (same.0, same.1, same.2)
 
 -- a row is the same in a strip of other rows
 abbrev pub of_rows : StripForm → ℕ → StripForm
@@ -80,11 +52,12 @@ module _ (form : StripForm) (from to : ℕ) where
   )
 
 pub uncounted_rows_are_a_strip : UncountedRowsAreAStrip
-uncounted_rows_are_a_strip form b rows end is = record {
-  remaining = is.remaining;
-  lines = all_lines form most_rows (length rows) 0 (white_row form.width) b rows is.stop is.remaining (omega arith)
-      is.lines;
-}
+uncounted_rows_are_a_strip form b rows end is =
+    let strip = read_strip (uncounted form) b in
+    let lines = lines_in (uncounted form) b rows strip.end (is.0, refl) in
+    is_strip (of_rows form (length rows)) b rows None strip.remaining
+    (all_lines form most_rows (length rows) 0 (white_row form.width) b rows strip.end strip.remaining (omega arith)
+    lines)
 
 -- after a written strip and fill no row more is read
 written_cause : (form : StripForm) (i : ℕ) (reference : List Colour) (coding : Coding) (zeros : ℕ)
@@ -159,10 +132,11 @@ pub written_is_uncounted : (form : StripForm) (b : List Bool) (rows : List (List
     → AreLines form 0 (white_row form.width) b rows None (end_bits form.coding ++ replicate zeros false)
     → IsUncounted form b rows (written_end form.coding)
 written_is_uncounted form b rows zeros few some lines =
+    let after = end_bits form.coding ++ replicate zeros false in
     let found = written_stop form most_rows zeros few 0 (white_row form.width) b rows lines in
-    record {
-      remaining = end_bits form.coding ++ replicate zeros false;
-      stop = found.stop;
-      lines = found.lines;
-      ends = written_ends_so form.coding (length rows) zeros found.stop some;
-    }
+    let read = strip_of (uncounted form) b rows found.stop after found.lines in
+    let ends = end_of form.coding (length rows) after found.stop (written_end form.coding)
+    (written_ends_so form.coding (length rows) zeros found.stop some) in (
+      ap (λ (strip : StripRead). strip.rows) read,
+      ap (λ (strip : StripRead). rows_end form.coding (length rows) strip.remaining strip.end) read ∙ ends,
+    )

@@ -19,13 +19,14 @@ use Rattle.fax_bits.specs.Reading.{read}
 use Rattle.fax_rows.specs.ReadRows.{read_one_dimensional}
 use Rattle.fax_page.specs.Lines.{tag_bit, IsLine, read_codes, start_by, white_row}
 use Rattle.fax_page.specs.views.Strip.{IsStripForm}
-use Rattle.fax_page.specs.Strip.{AreLines}
+use Rattle.fax_page.specs.laws.Lines.{AreLines}
 use Rattle.fax_page.specs.Strip.{written_dimension, row_bits, fill_zeros, start_bits, coded_line, coded_lines}
 use Rattle.fax_page.specs.Strip.{coded_bits, end_bits}
 use Rattle.fax_page.specs.laws.Strips.{AreRowsOf, CodedBitsAreRead}
 use Rattle.fax_page.proofs.FillLemmas.{end_of_line_back}
 use Rattle.fax_page.proofs.FirstCodeLemmas.{row_begins}
 use Rattle.fax_page.proofs.LineParts.{line_of}
+use Rattle.fax_page.proofs.StripGraph.{is_strip}
 
 -- a written row begins as it is to
 start_back : (coding : Coding) (aligned : Bool) (before k i : ℕ) (reference row : List Colour) (more : List Bool)
@@ -49,8 +50,8 @@ start_back Mmr aligned before k i reference row more = refl
 module _ (one_read : OneDimensionalBitsAreRead) (two_read : TwoDimensionalBitsAreRead) (form : StripForm)
     (limits : IsStripForm form)
     (k : ℕ) where
-  row_back : (dimension : Dimension) (reference row : List Colour) (more : List Bool) → length reference ≡ form.width
-      → length row ≡ form.width
+  pub row_back : (dimension : Dimension) (reference row : List Colour) (more : List Bool)
+      → length reference ≡ form.width → length row ≡ form.width
       → read_codes dimension form.width reference (row_bits dimension reference row ++ more) ≡ read row more
   row_back OneDimensional reference row more reference_width width =
       ap (λ n. read_one_dimensional n (one_dimensional_bits row ++ more)) (sym width)
@@ -117,7 +118,5 @@ module _ (one_read : OneDimensionalBitsAreRead) (two_read : TwoDimensionalBitsAr
 -- a written strip is read back, whatever bits follow it
 pub coded_bits_back : OneDimensionalBitsAreRead → TwoDimensionalBitsAreRead → CodedBitsAreRead
 coded_bits_back one_read two_read form k rows more limits fit =
-    record {
-      remaining = end_bits form.coding ++ more;
-      lines = coded_lines_back one_read two_read form limits k rows more fit;
-    }
+    is_strip form (coded_bits form k rows ++ more) rows None (end_bits form.coding ++ more)
+    (coded_lines_back one_read two_read form limits k rows more fit)

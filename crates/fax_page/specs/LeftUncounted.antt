@@ -5,19 +5,19 @@ use Rattle.std.specs.Prelude.{◌≡◌, ◌≢◌, ℕ, ◌+◌, ◌<◌, ◌�
 use Rattle.fax_bits.specs.declared.Colour.{Colour}
 use Rattle.fax_page.specs.declared.StripFault.TheVariants.{MissingEol}
 use Rattle.fax_page.specs.Lines.{StripFault, StripForm, in_code, next_one, read_start, white_row}
-use Rattle.fax_page.specs.Strip.{HasEndMark}
-use Rattle.fax_page.specs.Uncounted.{RowsEndAs, Fault, HasDataEnd, RowsEnd, TooMany}
+use Rattle.fax_page.specs.Uncounted.{Fault, RowsEnd, TooMany, rows_end}
 use Rattle.fax_page.specs.Salvage.{SalvagedRow, found, lost, unended}
 use Rattle.fax_page.specs.Salvage.{NeedsEol, IsLostBecause, IsReadFrom, resync_point, resync_from}
 
 -- row i comes next: there may be so many rows, and they do not end before it
 abbrev pub HasNextRow : StripForm → ℕ → List Bool → Type 0
 HasNextRow form i b =
-    (i < form.rows) × (HasEndMark form.coding b → ⊥) × (HasDataEnd i b → ⊥)
+    (i < form.rows) × (rows_end form.coding i b None ≡ TooMany)
 
 -- the rows end so before row i: with an end mark, with the data, or since there may be no more
 abbrev pub IsEndBefore : StripForm → ℕ → List Bool → RowsEnd → Type 0
-IsEndBefore form i b end = RowsEndAs form.coding i b None end × (end ≡ TooMany → i ≡ form.rows)
+IsEndBefore form i b end =
+    (rows_end form.coding i b None ≡ end) × (end ≡ TooMany → i ≡ form.rows)
 
 -- after row i, which is lost for this cause, the next one begins at the next EOL; where none is
 -- left, or there may be no more rows, they end with that fault

@@ -1,32 +1,42 @@
 -- The rows of a strip, how a strip is written, and what is worth a note in one that has all its
 -- rows. A definition without a citation is this project's profile.
-use Rattle.std.specs.Prelude.{◌≡◌, ◌≢◌, ℕ, zero, suc, ◌+◌, ◌-◌, ◌%◌, ◌<◌, ◌⊎◌, ◌↔◌, Bool, true}
-use Rattle.std.specs.Prelude.{false, nat_eq, if◌then◌else◌, List, [], ◌∷◌, ◌++◌, length, replicate}
-use Rattle.std.specs.Prelude.{Option, Some, None, IsTrue}
-use Rattle.std.specs.List.{Contains}
+use Rattle.std.specs.Prelude.{ℕ, zero, suc, ◌+◌, ◌-◌, ◌%◌, nat_eq, Bool, true, false, not, ◌&&◌}
+use Rattle.std.specs.Prelude.{if◌then◌else◌, List, [], ◌∷◌, ◌++◌, length, replicate}
+use Rattle.std.specs.Prelude.{Option, Some, None, is_some, unwrap_or, Result, Ok, Err}
+use Rattle.std.specs.List.{list_any}
 use Rattle.fax_bits.specs.Bits.{packed}
+use Rattle.fax_bits.specs.Codes.{after_front}
+use Rattle.fax_bits.specs.Reading.{read, failed}
 use Rattle.fax_rows.specs.Rows.{Colour}
 use Rattle.fax_rows.specs.Coded.{one_dimensional_bits, two_dimensional_bits}
 use Rattle.fax_page.specs.Lines.{Coding, Mh, Mr, Mmr, Dimension, OneDimensional, TwoDimensional}
-use Rattle.fax_page.specs.Lines.{StripForm, StripFault, IsCause, IsLine, tag_bit}
-use Rattle.fax_bits.specs.Reading.{read}
-use Rattle.fax_page.specs.Lines.{ends_line, next_one, read_start, white_row}
+use Rattle.fax_page.specs.Lines.{StripForm, StripFault, tag_bit, NextOne, ends_line, next_one}
+use Rattle.fax_page.specs.Lines.{read_line, read_start, white_row}
 use Rattle.fax_page.specs.declared.notes.StripNotes.{StripNotes}
 
 -- the most rows that a strip has
 abbrev pub most_rows : ℕ
 most_rows = 1000000
 
--- from row i on, over this reference, the bits are these rows, each over the row before it, and
--- then those that are left: the strip has all its rows, or this fault is in the way of the next
-abbrev pub AreLines : StripForm → ℕ → List Colour → List Bool → List (List Colour)
-    → Option StripFault → List Bool → Type 0
-AreLines form i reference b [] None remaining = (b ≡ remaining) × (i ≡ form.rows)
-AreLines form i reference b [] (Some fault) remaining =
-    (b ≡ remaining) × (i < form.rows) × IsCause form i reference b fault
-AreLines form i reference b (row ∷ rows) end remaining =
-    (rest : List Bool) × (i < form.rows) × IsLine form i reference b row rest
-    × AreLines form (i + 1) row rest rows end remaining
+-- n rows from row i on, each over the row before it: those that are there, the fault in the way of
+-- the next, and the remaining bits
+pub record StripRead : Type 0 where
+  pub rows : List (List Colour)
+  pub end : Option StripFault
+  pub remaining : List Bool
+
+abbrev pub read_lines : ℕ → StripForm → ℕ → List Colour → List Bool → StripRead
+read_lines zero form i reference b = record { rows = []; end = None; remaining = b }
+read_lines (suc n) form i reference b =
+    elim (read_line form i reference b) [
+      | failed fault ↦ record { rows = []; end = Some fault; remaining = b }
+      | read row rest ↦ let more = read_lines n form (i + 1) row rest in
+          record { rows = row ∷ more.rows; end = more.end; remaining = more.remaining }
+    ]
+
+-- the rows of a strip
+abbrev pub read_strip : StripForm → List Bool → StripRead
+read_strip form b = read_lines form.rows form 0 (white_row form.width) b
 
 -- EOL: eleven zeros and a 1 (T.4, section 4.1.2)
 abbrev pub eol_bits : List Bool
@@ -87,59 +97,62 @@ coded_bits form k rows = coded_lines form k 0 0 (white_row form.width) rows ++ e
 unfoldable pub coded_strip : StripForm → ℕ → List (List Colour) → List ℕ
 coded_strip form k rows = packed form.order (coded_bits form k rows)
 
--- one EOL of a return to control: in MR the tag bit of a one-dimensional row follows it
+-- the bits after an EOL of a return to control, by the next 1: in MR a tag bit of 1 follows it
 -- (T.4, sections 4.1.4 and 4.2.4; that any fill may stand before it is the note's own rule)
-abbrev pub IsRtcEol : Coding → List Bool → List Bool → Type 0
-IsRtcEol Mh b rest = next_one 0 b ≡ ends_line rest
-IsRtcEol Mr b rest = next_one 0 b ≡ ends_line (tag_bit OneDimensional ∷ rest)
-IsRtcEol Mmr b rest = ⊥
+abbrev pub after_return : Coding → NextOne → Option (List Bool)
+after_return Mh (ends_line rest) = Some rest
+after_return Mr (ends_line (true ∷ rest)) = Some rest
+after_return _ _ = None
 
--- so many of them stand one after another (T.4, sections 4.1.4 and 4.2.4)
-abbrev pub AreRtcEols : Coding → ℕ → List Bool → List Bool → Type 0
-AreRtcEols coding zero b rest = b ≡ rest
-AreRtcEols coding (suc n) b rest =
-    (middle : List Bool) × IsRtcEol coding b middle × AreRtcEols coding n middle rest
+-- the bits after so many of them (T.4, sections 4.1.4 and 4.2.4)
+abbrev pub after_returns : Coding → ℕ → List Bool → Option (List Bool)
+after_returns coding zero b = Some b
+after_returns coding (suc n) b =
+    elim (after_return coding (next_one 0 b)) [
+      | None ↦ None
+      | Some rest ↦ after_returns coding n rest
+    ]
 
--- the bits begin with an end mark: in MH and MR a return to control, six EOLs (T.4, sections 4.1.4
--- and 4.2.4), in MMR the end of a facsimile block (T.6, End-of-facsimile block)
-abbrev pub IsEndMark : Coding → List Bool → List Bool → Type 0
-IsEndMark Mmr b rest = b ≡ end_bits Mmr ++ rest
-IsEndMark coding b rest = AreRtcEols coding 6 b rest
+-- the bits after an end mark: in MH and MR a return to control, six EOLs (T.4, sections 4.1.4 and
+-- 4.2.4), in MMR the end of a facsimile block (T.6, End-of-facsimile block)
+abbrev pub after_mark : Coding → List Bool → Option (List Bool)
+after_mark Mmr b = after_front (end_bits Mmr) b
+after_mark coding b = after_returns coding 6 b
 
-abbrev pub HasEndMark : Coding → List Bool → Type 0
-HasEndMark coding b = (rest : List Bool) × IsEndMark coding b rest
+-- from row i on, over this reference, the codes of some of these rows are others than those that
+-- T.4 chooses (T.4, sections 4.1.1 and 4.2.1.3.3)
+abbrev pub has_other_choice : Coding → ℕ → List Colour → List Bool → List (List Colour) → Bool
+has_other_choice coding i reference b [] = false
+has_other_choice coding i reference b (row ∷ rows) =
+    elim (read_start coding i b) [
+      | failed fault ↦ false
+      | read dimension codes ↦ elim (after_front (row_bits dimension reference row) codes) [
+        | None ↦ true
+        | Some rest ↦ has_other_choice coding (i + 1) row rest rows
+      ]
+    ]
 
--- the codes of row i, after what stands before them, are others than those that T.4 chooses (T.4,
--- sections 4.1.1 and 4.2.1.3.3)
-abbrev pub HasOtherCodes : StripForm → ℕ → List Colour → List Bool → List Colour → List Bool
-    → Type 0
-HasOtherCodes form i reference b row rest =
-    (dimension : Dimension) × (codes : List Bool)
-    × (read_start form.coding i b ≡ read dimension codes)
-    × (codes ≢ row_bits dimension reference row ++ rest)
+abbrev pub is_mmr : Coding → Bool
+is_mmr Mmr = true
+is_mmr _ = false
 
--- from row i on, over this reference, the codes of some row are others than those that T.4 chooses
--- (T.4, sections 4.1.1 and 4.2.1.3.3)
-abbrev pub HasNonCanonicalRow : StripForm → ℕ → List Colour → List Bool → List (List Colour)
-    → Type 0
-HasNonCanonicalRow form i reference b [] = ⊥
-HasNonCanonicalRow form i reference b (row ∷ rows) =
-    (rest : List Bool) × IsLine form i reference b row rest
-    × (HasOtherCodes form i reference b row rest ⊎ HasNonCanonicalRow form (i + 1) row rest rows)
+-- the notes on a strip of these bits, by its rows and by what is left after them
+abbrev pub notes_after : StripForm → List Bool → List (List Colour) → List Bool → StripNotes
+notes_after form b rows remaining =
+    let after = after_mark form.coding remaining in
+    record {
+      no_end_of_block = is_mmr form.coding && not (is_some after);
+      return_to_control = not (is_mmr form.coding) && is_some after;
+      data_after_end = list_any (λ bit. bit) (unwrap_or after remaining);
+      not_t4_choice = has_other_choice form.coding 0 (white_row form.width) b rows;
+    }
 
--- the notes on a strip of which all rows can be read, by what is left after them, and what of it
--- stands after the end mark: all of it where it begins with none
-pub record IsNotedAs (form : StripForm) (b : List Bool) (rows : List (List Colour))
-    (notes : StripNotes) : Type 0 where
-  pub remaining : List Bool
-  pub lines : AreLines form 0 (white_row form.width) b rows None remaining
-  pub after : List Bool
-  pub after_end : IsEndMark form.coding remaining after
-      ⊎ ((HasEndMark form.coding remaining → ⊥) × (after ≡ remaining))
-  pub no_end_of_block : IsTrue notes.no_end_of_block ↔
-      ((form.coding ≡ Mmr) × (HasEndMark form.coding remaining → ⊥))
-  pub return_to_control : IsTrue notes.return_to_control ↔
-      ((form.coding ≢ Mmr) × HasEndMark form.coding remaining)
-  pub data_after_end : IsTrue notes.data_after_end ↔ Contains after true
-  pub not_t4_choice : IsTrue notes.not_t4_choice ↔
-      HasNonCanonicalRow form 0 (white_row form.width) b rows
+-- the notes on a strip that has all its rows; or how many it has, and the fault in the way of the
+-- next
+abbrev pub noted : StripForm → List Bool → Result StripNotes (ℕ × StripFault)
+noted form b =
+    let strip = read_strip form b in
+    elim strip.end [
+      | None ↦ Ok (notes_after form b strip.rows strip.remaining)
+      | Some fault ↦ Err (length strip.rows, fault)
+    ]

@@ -4,6 +4,7 @@ pub mod Starts
 pub mod LineStops
 pub mod Reader
 pub mod Writer
+pub mod Ends
 pub mod Notes
 pub mod Salvage
 pub mod LeftUncounted

@@ -1,3 +1,4 @@
+pub mod Lines
 pub mod Strips
 pub mod Reader
 pub mod Writer

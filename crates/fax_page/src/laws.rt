@@ -6,19 +6,17 @@ ghost use Rattle.fax_page.specs.laws.Strips as Law;
 ghost use Rattle.fax_page.specs.laws.Following as Following;
 ghost use Rattle.fax_page.specs.laws.StripGraphs as Graphs;
 ghost use Rattle.fax_page.specs.laws.LeftUncounted.{LeavesUncounted};
+ghost use Rattle.fax_page.specs.laws.Lines.{LinesAreReadByAFunction};
 ghost use Rattle.fax_page.specs.laws.Reader.{ReadsRowByRow, StripsAreReadOn};
 ghost use Rattle.fax_page.specs.laws.Salvage as Salvage;
 ghost use Rattle.fax_page.specs.laws.Uncounted as Uncounted;
 ghost use Rattle.fax_page.specs.laws.Writer.{WritesRowByRow};
 
-/// The rows of a strip, up to its end, are what a function reads of its bits, in any coding.
-pub fn strips_are_read_by_functions()
-    ensures { Graphs.StripsAreReadByFunctions }
-{}
-
-/// How the rows of a strip of unknown height end is what a function says, in any coding.
-pub fn ends_are_told_by_a_function()
-    ensures { Graphs.EndsAreToldByAFunction }
+/// The rows of a strip, from any row on, line by line, are what a function reads of its bits, in
+/// any
+/// coding.
+pub fn lines_are_read_by_a_function()
+    ensures { LinesAreReadByAFunction }
 {}
 
 /// Bits are read in one way as a row of a strip, in any coding: they begin with one row and one
@@ -31,20 +29,6 @@ pub fn lines_are_read_in_one_way()
     fax_rows::laws::rows_have_their_width();
     fax_bits::laws::run_codes_are_read_in_one_way();
     fax_bits::laws::codes_are_read_in_one_way::<fax_bits::Modes>();
-}
-
-/// Bits are read in one way as a strip, in any coding: they have one list of rows and one end.
-pub fn strips_are_read_in_one_way()
-    ensures { (form : StripForm) → Law.ReadsStripsOneWay form }
-{
-    strips_are_read_by_functions();
-}
-
-/// A strip is noted in one way: of any bits that have all its rows there is one set of notes.
-pub fn strips_are_noted_in_one_way()
-    ensures { Law.StripsAreNotedInOneWay }
-{
-    strips_are_read_by_functions();
 }
 
 /// An aligned EOL ends on a byte boundary of its strip, after as little fill as does so (T.4,
@@ -71,14 +55,6 @@ pub fn coded_strips_are_read_back()
     fax_bits::laws::bits_are_packed_in_one_way();
 }
 
-/// A written strip is read as no other rows and with no other end.
-pub fn coded_strips_are_read_as_nothing_else()
-    ensures { Law.CodedStripsAreOneStrip }
-{
-    coded_strips_are_read_back();
-    strips_are_read_in_one_way();
-}
-
 /// A strip is read row by row: where `StripReader::advance` reads rows one after another, from a
 /// strip's beginning on, they are the rows of the strip, up to its end.
 pub fn strips_are_read_row_by_row()
@@ -97,15 +73,6 @@ pub fn strips_are_read_on()
 pub fn strips_are_written_row_by_row()
     ensures { WritesRowByRow }
 {}
-
-/// Any bits are read in one way as rows of a strip of unknown height, in any coding: they have one
-/// list of rows, of at most 1,000,000, and one end.
-pub fn uncounted_rows_are_read_in_one_way()
-    ensures { (form : StripForm) → Uncounted.ReadsUncountedOneWay form }
-{
-    strips_are_read_by_functions();
-    ends_are_told_by_a_function();
-}
 
 /// Rows of a strip of unknown height, however they end, are all rows of a strip of as many, and no
 /// fault.
@@ -171,8 +138,8 @@ pub fn lost_bits_do_not_matter()
 {}
 
 /// The next row after one that is found or lost begins among the bits from that one on.
-pub fn due_rows_stand_in_strips()
-    ensures { Salvage.DueRowsStandInStrips }
+pub fn upcoming_rows_stand_in_strips()
+    ensures { Salvage.UpcomingRowsStandInStrips }
 {
     lines_are_read_in_one_way();
 }

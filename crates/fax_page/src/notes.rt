@@ -1,11 +1,11 @@
 //! What is worth a note in a strip that has all its rows.
-ghost use Rattle.std.specs.Prelude.{◌≡◌, ◌<◌, ◌≤◌, ◌^◌, List, length, IfOk, IfErr, IsTrue, OnOk};
+ghost use Rattle.std.specs.Prelude.{◌≡◌, ◌<◌, ◌≤◌, ◌^◌, length, Ok, IfOk, IfErr, IsTrue, OnOk};
 ghost use Rattle.fax_bits.specs.Bits.{bits};
-ghost use Rattle.fax_bits.specs.declared.Colour.{Colour};
 ghost use Rattle.fax_bits.specs.Reading.{answered, read};
 ghost use Rattle.fax_page.specs.Lines.{read_codes as read_codes_of};
-ghost use Rattle.fax_page.specs.Strip as Spec;
-ghost use Rattle.fax_page.specs.views.Strip.{IsNotedUncounted, IsNotesFault, IsStripForm};
+ghost use Rattle.fax_page.specs.Strip.{noted};
+ghost use Rattle.fax_page.specs.views.Strip.{IsNotesFault, IsStripForm, noted_uncounted};
+ghost use Rattle.fax_page.specs.code.Ends as Ends;
 ghost use Rattle.fax_page.specs.code.Notes as Code;
 
 use crate::lines::{read_codes, read_eol, read_start, stop, take_white};
@@ -249,7 +249,7 @@ fn skip_return_eol(source: &mut BitSource, coding: Coding) -> bool
 
 /// What stands after a return to control, where there is one (T.4, section 4.1.4).
 fn after_return_to_control<'a>(source: &BitSource<'a>, coding: Coding) -> Option<BitSource<'a>>
-    ensures { Code.IsAfterMark (Spec.AreRtcEols coding 6 source.now.remaining) result }
+    ensures { Code.IsAfterMark (Ends.AreRtcEols coding 6 source.now.remaining) result }
 {
     let mut ahead = source.fork();
     for _eol in 0..RETURN_EOLS {
@@ -263,7 +263,7 @@ fn after_return_to_control<'a>(source: &BitSource<'a>, coding: Coding) -> Option
 /// What stands after the end mark of a strip, where there is one (T.4, section 4.1.4; T.6,
 /// End-of-facsimile block).
 pub(crate) fn after_end<'a>(source: &BitSource<'a>, coding: Coding) -> Option<BitSource<'a>>
-    ensures { Code.IsAfterMark (Spec.IsEndMark coding source.now.remaining) result }
+    ensures { Code.IsAfterMark (Ends.IsEndMark coding source.now.remaining) result }
 {
     // The end of a facsimile block has no fill: with a zero before it a strip of MMR has none, and
     // data.
@@ -372,12 +372,13 @@ impl NotesReader {
         requires count { length bytes.now ≤ 4294967295 }
         requires limits { IsStripForm form }
         requires width { form.width ≡ self.old }
-        ensures ok { IfOk result (λ notes. (rows : List (List Colour))
-            × Spec.IsNotedAs form (bits form.order bytes.now) rows notes) }
+        ensures ok { IfOk result (λ notes. noted form (bits form.order bytes.now) ≡ Ok notes) }
         ensures err { IfErr result (IsNotesFault form (bits form.order bytes.now)) }
         ensures same_width { self.new ≡ self.old }
     {
         crate::laws::lines_are_read_in_one_way();
+        fax_rows::laws::one_dimensional_rows_are_read_back();
+        fax_rows::laws::two_dimensional_rows_are_read_back();
         self.rows.reference.whiten();
         let mut strip = NotedStrip {
             source: BitSource::new(bytes, form.order),
@@ -405,11 +406,13 @@ impl NotesReader {
         requires count { length bytes.now ≤ 4294967295 }
         requires limits { IsStripForm form }
         requires width { form.width ≡ self.old }
-        ensures ok { IfOk result (λ found. (rows : List (List Colour))
-            × IsNotedUncounted form (bits form.order bytes.now) rows found) }
+        ensures ok { IfOk result (λ found.
+            found ≡ noted_uncounted form (bits form.order bytes.now)) }
         ensures same_width { self.new ≡ self.old }
     {
         crate::laws::lines_are_read_in_one_way();
+        fax_rows::laws::one_dimensional_rows_are_read_back();
+        fax_rows::laws::two_dimensional_rows_are_read_back();
         self.rows.reference.whiten();
         let mut strip = NotedStrip {
             source: BitSource::new(bytes, form.order),
@@ -444,8 +447,7 @@ impl NotesReader {
 pub fn strip_notes(alloc: Global, bytes: &[u8], form: StripForm) -> Result<StripNotes, NotesFault>
     requires count { length bytes.now ≤ 4294967295 }
     requires limits { IsStripForm form }
-    ensures ok { IfOk result (λ notes. (rows : List (List Colour))
-        × Spec.IsNotedAs form (bits form.order bytes.now) rows notes) }
+    ensures ok { IfOk result (λ notes. noted form (bits form.order bytes.now) ≡ Ok notes) }
     ensures err { IfErr result (IsNotesFault form (bits form.order bytes.now)) }
 {
     let mut reader = NotesReader::new(alloc, form.width)?;

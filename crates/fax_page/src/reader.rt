@@ -56,10 +56,10 @@ impl<'a> StripReader<'a> {
     ghost use Rattle.fax_page.specs.Strip.{most_rows};
     ghost use Rattle.fax_page.specs.views.Strip.{IsStripForm};
     ghost use Rattle.fax_page.specs.views.Reader.{strip_beginning, restarted, restarted_at};
-    ghost use Rattle.fax_page.specs.views.Reader.{IsBegunInside};
+    ghost use Rattle.fax_page.specs.views.Reader.{IsStartedInside};
     ghost use Rattle.fax_page.specs.views.Reader.{IsAdvance, bits_left};
-    ghost use Rattle.fax_page.specs.Uncounted.{RowsEndAs};
-    ghost use Rattle.fax_page.specs.views.NextRow.{EndsAs, IsDue, IsNextRow};
+    ghost use Rattle.fax_page.specs.Uncounted.{rows_end};
+    ghost use Rattle.fax_page.specs.views.NextRow.{EndsAs, IsUpcoming, IsNextRow};
     ghost use Rattle.fax_page.specs.Lines.{white_row};
     ghost use Rattle.fax_page.specs.code.Salvage.{PassesLost, SaysTwoDimensional, SaysUnended};
 
@@ -106,7 +106,7 @@ impl<'a> StripReader<'a> {
         requires count { length bytes.now ≤ 4294967295 }
         requires limits { IsStripForm form }
         requires upcoming { row < form.rows }
-        ensures { IsBegunInside form bytes.now row bits before.entry result }
+        ensures { IsStartedInside form bytes.now row bits before.entry result }
     {
         bits_stand_by_index();
         // The runs are looked at before memory is taken: a place that is none is reported so,
@@ -190,8 +190,8 @@ impl<'a> StripReader<'a> {
     pub fn advance(&mut self) -> Result<bool, StripFault>
         ensures { IsAdvance self.old result self.new }
     {
-        // It stands beside `next_row`, which lends the row: the checker proves a lent row through
-        // one layer of crates and not through two, and the walk lends it on.
+        // `next_row` does this and lends the row. The walk, which lends its rows too, calls
+        // `advance` and then `reference`: the checker cannot follow a loan through two crates.
         bits_stand_by_index();
         crate::laws::lines_are_read_in_one_way();
         if let Some(fault) = self.fault {
@@ -233,10 +233,11 @@ impl<'a> StripReader<'a> {
     /// Why the next row could not be read. Every later call returns the same, until
     /// `restart` or `restart_at`.
     pub fn next_row(&mut self) -> Result<Option<&Row>, StripFault>
-        ensures row { IfOk result (λ lent. IfSome lent (λ row. IsDue self.old row.now)) }
+        ensures row { IfOk result (λ lent. IfSome lent (λ row. IsUpcoming self.old row.now)) }
         ensures* next { sem 𝓛 (EndsAs self.entry (IsNextRow self.old result)) }
     {
-        // The contract says plainly which row is lent (`IsDue`), beside what the reader is once the
+        // The contract says plainly which row is lent (`IsUpcoming`), beside what the reader is
+        // once the
         // row is given back: a caller that goes no further needs no more.
         if self.advance()? {
             Ok(Some(self.rows.reference()))
@@ -335,8 +336,8 @@ impl<'a> StripReader<'a> {
     /// rows that a strip has, `MOST_ROWS`: after a fault with that one, if not well.
     #[cold]
     pub(crate) fn uncounted_end(&self) -> RowsEnd
-        ensures { RowsEndAs self.now.form.coding self.now.row (bits_left self.now) self.now.fault
-            result }
+        ensures { result
+            ≡ rows_end self.now.form.coding self.now.row (bits_left self.now) self.now.fault }
     {
         bits_stand_by_index();
         let mut source = BitSource::new(self.bytes, self.form.order);

@@ -53,7 +53,7 @@ impl<'a> SalvageReader<'a> {
     ghost use Rattle.std.specs.Prelude.{◌≡◌, ◌<◌, IfOk, None};
     ghost use Rattle.fax_bits.specs.Bits.{bits};
     ghost use Rattle.fax_page.specs.Strip.{most_rows};
-    ghost use Rattle.fax_page.specs.Uncounted.{RowsEndAs};
+    ghost use Rattle.fax_page.specs.Uncounted.{rows_end};
     ghost use Rattle.fax_page.specs.code.Salvage.{IsOverLost, salvaging};
     ghost use Rattle.fax_page.specs.views.Salvage.{IsSalvageInside, IsSalvageStep};
     ghost use Rattle.fax_page.specs.views.Salvage.{salvage_beginning};
@@ -171,7 +171,7 @@ impl<'a> SalvageReader<'a> {
     /// `TooMany`.
     #[inline(always)]
     pub(crate) fn rows_end(&self) -> RowsEnd
-        ensures { RowsEndAs self.now.form.coding self.now.row self.now.upcoming None result }
+        ensures { result ≡ rows_end self.now.form.coding self.now.row self.now.upcoming None }
     {
         self.reader.uncounted_end()
     }

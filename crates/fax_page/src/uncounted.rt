@@ -11,8 +11,7 @@ use fax_rows::BitSource;
 
 /// Whether after so many rows, and at least one, nothing but fill is left.
 fn has_data_end(source: &BitSource, rows: u32) -> bool
-    ensures ends { IsTrue result → Spec.HasDataEnd rows source.now.remaining }
-    ensures more { result ≡ false → Spec.HasDataEnd rows source.now.remaining → ⊥ }
+    ensures { result ≡ Spec.has_data_end rows source.now.remaining }
 {
     if rows == 0 {
         return false;
@@ -103,7 +102,7 @@ pub fn classify_end(
     rows: u32,
     fault: Option<StripFault>,
 ) -> RowsEnd
-    ensures { Spec.RowsEndAs coding rows source.now.remaining fault result }
+    ensures { result ≡ Spec.rows_end coding rows source.now.remaining fault }
 {
     if let Some(_after) = after_end(source, coding) {
         return RowsEnd::Marked;

@@ -26,7 +26,7 @@ use Rattle.fax_page.specs.declared.StripForm.{StripForm}
 use Rattle.fax_bits.specs.Reading.{read}
 use Rattle.fax_page.specs.declared.Coding.{Coding}
 use Rattle.fax_page.specs.Lines.{IsLine, NextOne, ends_line, in_code, next_one, read_codes, read_start}
-use Rattle.fax_page.proofs.BegunLemmas.{one_begun}
+use Rattle.fax_page.proofs.StartedLemmas.{one_started}
 use Rattle.fax_page.proofs.LineParts.{parts}
 use Rattle.fax_page.specs.Lines.{not_there}
 use Rattle.fax_page.specs.Salvage.{after_eol}
@@ -233,7 +233,7 @@ line_codes : (form : StripForm) (i : ℕ) (reference : List Colour) (b : List Bo
     → IsLine form i reference b row rest → read_start form.coding i b ≡ read dimension codes → AreCodes codes rest
 line_codes form i reference b row rest dimension codes line start =
     let read = parts form i reference b row rest line in
-    let same = one_begun form.coding i b _ _ _ _ read.start start in
+    let same = one_started form.coding i b _ _ _ _ read.start start in
     subst (λ c. AreCodes c rest) same.1
     (row_codes read.dimension form.width reference read.codes row rest read.coded)
 

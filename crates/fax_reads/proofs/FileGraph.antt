@@ -20,7 +20,6 @@ use Rattle.fax_walk.proofs.TailLawLemmas.{files_have_one_items}
 use Rattle.fax_walk.proofs.InOrderLemmas.{IsOneAnswer, same_answer, two_of}
 use Rattle.fax_walk.proofs.PageLawLemmas.{form_falls, one_form, one_forms}
 use Rattle.fax_page.specs.Lines.{read_line}
-use Rattle.fax_page.specs.laws.StripGraphs.{StripsAreReadByFunctions}
 use Rattle.fax_reads.specs.Files.{AllRead, all_after, forms_from, read_all, read_form, read_forms, read_in_strip}
 use Rattle.fax_reads.specs.Files.{read_row, read_rows, row_or_end, rows_from}
 use Rattle.fax_reads.specs.laws.Files.{FilesAreReadByFunctions}
@@ -82,9 +81,7 @@ module _ (file : List ℕ) where
   forms_are chains p = all_are (IsForm file) (read_form file) form_is (λ p. length file - p) (form_falls chains file)
       (length file + 1) p (omega arith)
 
-module _ (strips : StripsAreReadByFunctions)
-    (by_place : AreBitsByIndex)
-    (lines_read : LinesAreRead) where
+module _ (by_place : AreBitsByIndex) (lines_read : LinesAreRead) where
   -- the row at a place of a strip
   module _ (form : PageForm) (at : RowPosition) (bytes : List ℕ) where
     abbrev strip : StripForm

@@ -1,7 +1,6 @@
 mod ExampleLemmas
 mod FileGraph
 mod TailGraph
-mod NoteGraph
 mod ReportGraph
 mod FileExampleLemmas
 mod TailExampleLemmas

@@ -1,17 +1,15 @@
 -- What a function reports of a file is what is defined to be reported.
 use Rattle.std.proofs.Common.{arith, ◌≡◌, ℕ, zero, suc, ◌+◌, ◌-◌, ◌*◌, ◌<◌, ◌≤◌, List, [], ◌∷◌, ◌++◌, length, refl, ap}
-use Rattle.std.proofs.Common.{sym, ◌∙◌, subst, Bool, true, false, Option, Some, None, Ok, Err}
+use Rattle.std.proofs.Common.{sym, ◌∙◌, subst, Bool, true, false, Option, Some, None, Result, Ok, Err}
 use Rattle.std.specs.Prelude.{◌==◌, flat_map, if◌then◌else◌, nat_lt}
 use Rattle.std.proofs.lemmas.Bool.Decides.{nat_tests}
-use Rattle.fax_bits.specs.declared.Colour.{Colour}
 use Rattle.fax_bits.specs.laws.Codes.{AreBitsByIndex}
 use Rattle.fax_bits.specs.Bits.{bits}
 use Rattle.fax_page.specs.declared.StripFault.{StripFault}
 use Rattle.fax_page.specs.declared.notes.StripNotes.{StripNotes}
-use Rattle.fax_page.specs.Lines.{white_row}
-use Rattle.fax_page.specs.Strip.{AreLines, most_rows}
-use Rattle.fax_page.specs.views.Strip.{IsStrip}
-use Rattle.fax_page.specs.laws.Strips.{StripsAreNotedInOneWay}
+use Rattle.fax_page.specs.declared.StripForm.{StripForm}
+use Rattle.fax_page.specs.Strip.{StripRead, most_rows, noted, notes_after, read_strip}
+use Rattle.fax_page.specs.laws.Lines.{IsStrip}
 use Rattle.fax_files.specs.declared.FileFault.TheVariants.{StripOutside}
 use Rattle.fax_files.specs.declared.PageForm.{PageForm}
 use Rattle.fax_files.specs.Page.{strip_bytes, strip_form}
@@ -22,9 +20,9 @@ use Rattle.fax_walk.specs.declared.end.End.{End}
 use Rattle.fax_walk.specs.declared.walk.Place.{Place}
 use Rattle.fax_files.specs.declared.Cause.{Cause}
 use Rattle.fax_walk.specs.declared.end.End.TheVariants.{EndOfPages, Fault, Outside}
-use Rattle.fax_walk.specs.Pages.{AreFrom, FilePage, read_page, NextItem, goes_on, ends_as, File}
+use Rattle.fax_walk.specs.Pages.{AreFrom, FilePage, read_page, NextItem, goes_on, ends_as, File, Strip}
 use Rattle.fax_walk.specs.Items.{AreItems, IsRow, RowItem, RowPosition, first_at}
-use Rattle.fax_walk.specs.Report.{IsNoted, IsReport, IsReportedEnd, IsStripNoted, notes_on_strip}
+use Rattle.fax_walk.specs.Report.{IsNoted, IsReport, IsReportedEnd, noted_on, noted_strip, notes_on_strip}
 use Rattle.fax_walk.specs.code.RowPlaces.{first_on}
 use Rattle.fax_walk.proofs.FileEndLemmas.{never_outside}
 use Rattle.fax_walk.proofs.InOrderLemmas.{IsSingle, joined, ended_at, single_from, two_of}
@@ -33,55 +31,59 @@ use Rattle.fax_walk.proofs.RowLawLemmas.{LinesAreRead, any_row, whole_page}
 use Rattle.fax_walk.proofs.StripPlaceLemmas.{in_strip, strip_count}
 use Rattle.fax_walk.proofs.StripRowLemmas.{row_at, strip_rows}
 use Rattle.fax_walk.proofs.TailLawLemmas.{files_have_one_items}
-use Rattle.fax_page.specs.reads.Lines.{StripRead, read_strip}
-use Rattle.fax_page.specs.laws.StripGraphs.{StripsAreReadByFunctions}
 use Rattle.fax_reads.specs.Files.{all_after, read_all, read_rows}
-use Rattle.fax_reads.specs.Reports.{ReportRead, fault_and_place, noted_by, noted_in, noted_on, pages_to, read_noted}
-use Rattle.fax_reads.specs.Reports.{read_notes, read_report, strip_notes}
+use Rattle.fax_reads.specs.Reports.{ReportRead, fault_and_place, pages_to, read_noted, read_notes, read_report}
 use Rattle.fax_reads.specs.laws.Reports.{ReportsAreReadByAFunction, parts_of}
 use Rattle.fax_reads.proofs.FileGraph.{on_page, rows_are}
-use Rattle.fax_reads.proofs.NoteGraph.{notes_are}
 
 abbrev Next : Type 0
 Next = ℕ × Option ℕ
 
-module _ (strips : StripsAreReadByFunctions) where
-  -- what is noted of a strip
-  by_end : (form : PageForm) (p s : ℕ) (bytes : List ℕ) (rows : List (List Colour)) (remaining : List Bool)
-      (end : Option StripFault)
-      → AreLines (strip_form form s) 0 (white_row form.width) (bits form.order bytes) rows end remaining
-      → IsStripNoted form p s (Some bytes) (noted_by form p s (bits form.order bytes) rows remaining end)
-  by_end form p s bytes rows remaining None lines =
-      (rows, _, notes_are strips (strip_form form s) (bits form.order bytes) rows remaining lines, refl, refl)
-  by_end form p s bytes rows remaining (Some fault) lines = (rows, fault, remaining, lines, refl)
+module _ (file : List ℕ) where
+  noted_is : (at : Next) → IsNoted file at (read_noted file at)
+  noted_is (p, strip) =
+      on_page (read_page file (record { page = p; row = 0 }))
+      (λ here (step : NextItem (List Note) Next). step ≡ noted_on file p strip here) ends_as
+      (λ found. elim found [ Err end ↦ ends_as end | Ok here ↦ noted_on file p strip here ])
+      (λ end. refl) (λ here. refl)
 
-  in_strip_is : (form : PageForm) (p s : ℕ) (found : Option (List ℕ))
-      → IsStripNoted form p s found (noted_in form p s found)
-  in_strip_is form p s None = refl
-  in_strip_is form p s (Some bytes) =
-      let strip = strip_form form s in
-      let b = bits form.order bytes in
-      let all = read_strip strip b in
-      by_end form p s bytes all.rows all.remaining all.end
-      ((strips strip b all.rows all.end all.remaining).1 refl)
+-- a strip with notes has all its rows, and one with none has a fault after so many
+abbrev Found : Type 0
+Found = Result StripNotes (ℕ × StripFault)
 
-  module _ (file : List ℕ) where
-    noted_is : (at : Next) → IsNoted file at (read_noted file at)
-    noted_is (p, None) =
-        on_page (read_page file (record { page = p; row = 0 }))
-        (λ here (step : NextItem (List Note) Next). step ≡ noted_on file p None here) ends_as
-        (λ found. elim found [ Err end ↦ ends_as end | Ok here ↦ noted_on file p None here ])
-        (λ end. refl) (λ here. refl)
-    noted_is (p, Some s) =
-        on_page (read_page file (record { page = p; row = 0 }))
-        (λ here. IsStripNoted here.form p s (strip_bytes here.endian file here.offset s)) ends_as
-        (λ found. elim found [ Err end ↦ ends_as end | Ok here ↦ noted_on file p (Some s) here ])
-        (λ end. refl) (λ here. in_strip_is here.form p s (strip_bytes here.endian file here.offset s))
+abbrev found_in : StripForm → List Bool → StripRead → Option StripFault → Found
+found_in form b strip end =
+    elim end [
+      | None ↦ Ok (notes_after form b strip.rows strip.remaining)
+      | Some fault ↦ Err (length strip.rows, fault)
+    ]
+
+abbrev IsFoundAs : StripForm → List Bool → Found → Type 0
+IsFoundAs form b (Ok found) = IsStrip form b (read_strip form b).rows None
+IsFoundAs form b (Err (rows, fault)) =
+    (length (read_strip form b).rows ≡ rows) × IsStrip form b (read_strip form b).rows (Some fault)
+
+found_as : (form : StripForm) (b : List Bool) → IsFoundAs form b (noted form b)
+found_as form b = by (read_strip form b).end refl
+  where
+    by : (end : Option StripFault) → (read_strip form b).end ≡ end
+        → IsFoundAs form b (found_in form b (read_strip form b) end)
+    by None is = (refl, is)
+    by (Some fault) is = (refl, (refl, is))
+
+-- what is noted of a strip, by what is found in it
+abbrev noted_by : PageForm → ℕ → ℕ → Found → NextItem (List Note) Next
+noted_by form p s found =
+    elim found [
+      | Ok notes ↦ goes_on (notes_on_strip p s notes)
+          (if s + 1 == form.strips then (p + 1, None) else (p, Some (s + 1)))
+      | Err (rows, fault) ↦ ends_as (Fault p (s * form.rows_per_strip + rows) (Strip fault))
+    ]
 
 -- a strip that is expected is one of its page
-abbrev IsDue : List ℕ → Next → Type 0
-IsDue file (p, None) = Unit {0}
-IsDue file (p, Some s) =
+abbrev IsUpcoming : List ℕ → Next → Type 0
+IsUpcoming file (p, None) = Unit {0}
+IsUpcoming file (p, Some s) =
     (here : FilePage) × (read_page file (record { page = p; row = 0 }) ≡ Ok here) × (s < here.form.strips)
 
 -- more than what is left
@@ -105,7 +107,7 @@ some_strips form whole = by_count form.strips whole.enough
 
 module _ (chains : FilesHaveOneChain) (forms : FormsAreWhole) (file : List ℕ) where
   abbrev Falls : Next → Next → Type 0
-  Falls at to = IsDue file to × (measure file to < measure file at)
+  Falls at to = IsUpcoming file to × (measure file to < measure file at)
 
   after_strip : (p s : ℕ) (here : FilePage) → read_page file (record { page = p; row = 0 }) ≡ Ok here
       → s < here.form.strips → (test : Bool) → (s + 1 == here.form.strips) ≡ test
@@ -120,12 +122,19 @@ module _ (chains : FilesHaveOneChain) (forms : FormsAreWhole) (file : List ℕ) 
 
   in_file : (p s : ℕ) (here : FilePage) → read_page file (record { page = p; row = 0 }) ≡ Ok here
       → s < here.form.strips → (found : Option (List ℕ)) (item : List Note) (to : Next)
-      → IsStripNoted here.form p s found (goes_on item to) → Falls (p, Some s) to
+      → goes_on item to ≡ noted_strip here.form p s found → Falls (p, Some s) to
   in_file p s here page upcoming None item to is = absurd (cc (is))
-  in_file p s here page upcoming (Some bytes) item to (rows, found, noted, is, to_is) =
-      subst (Falls (p, Some s)) (sym to_is) (after_strip p s here page upcoming (s + 1 == here.form.strips) refl)
+  in_file p s here page upcoming (Some bytes) item to is =
+      by (noted (strip_form here.form s) (bits here.form.order bytes)) is
+    where
+      by : (found : Found) → goes_on item to ≡ noted_by here.form p s found → Falls (p, Some s) to
+      by (Err (rows, fault)) is = absurd (cc (is))
+      by (Ok found) is =
+          let to_is : to ≡ (if s + 1 == here.form.strips then (p + 1, None) else (p, Some (s + 1))) = cc (is) in
+          subst (Falls (p, Some s)) (sym to_is) (after_strip p s here page upcoming (s + 1 == here.form.strips) refl)
 
-  falls : (at : Next) (item : List Note) (to : Next) → IsDue file at → IsNoted file at (goes_on item to) → Falls at to
+  falls : (at : Next) (item : List Note) (to : Next) → IsUpcoming file at → IsNoted file at (goes_on item to)
+      → Falls at to
   falls (p, None) item to upcoming is = by_page file (record { page = p; row = 0 }) is (λ here page is.
       let to_is : to ≡ (p, Some 0) = cc (is) in
       let some = some_strips here.form (whole_page file forms (record { page = p; row = 0 }) here page) in
@@ -144,7 +153,7 @@ module _ (chains : FilesHaveOneChain) (forms : FormsAreWhole) (file : List ℕ) 
     by_step limit at (ends_as end) here more = here
     by_step limit at (goes_on item to) here more = (to, here, more item to here)
 
-    all_noted : (limit : ℕ) (at : Next) → IsDue file at → measure file at < limit
+    all_noted : (limit : ℕ) (at : Next) → IsUpcoming file at → measure file at < limit
         → AreFrom (IsNoted file) at (read_all limit (read_noted file) at).items
         (read_all limit (read_noted file) at).end
     all_noted zero at upcoming few = absurd (omega (arith, few))
@@ -178,9 +187,12 @@ module _ (by_place : AreBitsByIndex) (lines_read : LinesAreRead) (chains : Files
     pages : (r : ℕ) → read_page file (record { page = p; row = r }) ≡ Ok here
     pages r = any_row file (record { page = p; row = 0 }) r here page
 
+    abbrev strip : StripForm
+    strip = strip_form here.form s
+
     -- a strip that is not whole
     stops : (end : End) (found : Option (List ℕ)) → strip_bytes here.endian file here.offset s ≡ found
-        → IsStripNoted here.form p s found (ends_as end)
+        → ends_as end ≡ noted_strip here.form p s found
         → (items : List RowItem) × AreFrom (IsRow file) first items end
     stops end None none is =
         let number = in_strip n s 0 (s * n) whole.some_in_strip (omega arith) in
@@ -189,12 +201,18 @@ module _ (by_place : AreBitsByIndex) (lines_read : LinesAreRead) (chains : Files
           row_at by_place lines_read file here.endian here.offset here.form p pages whole (s * n) None None
               (ends_as end) (rw number.0 none) (rw (number.0, same) refl),
         )
-    stops end (Some bytes) there (rows, fault, remaining, lines, is) =
-        let strip : IsStrip (strip_form here.form s) (bits here.form.order bytes) rows (Some fault) =
-        record { remaining = remaining; lines = lines } in
-        let read = strip_rows by_place lines_read file here.endian here.offset here.form p pages whole s
-        (whole.needed s upcoming) bytes there rows (Some fault) strip in
-        (read.items, ended_at (IsRow file) first read.to read.items end read.lead (rw is read.there))
+    stops end (Some bytes) there is =
+        by (noted strip (bits here.form.order bytes)) (found_as strip (bits here.form.order bytes)) is
+      where
+        by : (found : Found) → IsFoundAs strip (bits here.form.order bytes) found
+            → ends_as end ≡ noted_by here.form p s found → (items : List RowItem) × AreFrom (IsRow file) first items end
+        by (Ok notes) has is = absurd (cc (is))
+        by (Err (rows, fault)) (count, has) is =
+            let read = strip_rows by_place lines_read file here.endian here.offset here.form p pages whole s
+            (whole.needed s upcoming) bytes there (read_strip strip (bits here.form.order bytes)).rows (Some fault)
+            has in
+            let same : end ≡ Fault p (s * n + rows) (Strip fault) = cc (is) in
+            (read.items, ended_at (IsRow file) first read.to read.items end read.lead (rw (same, ← count) read.there))
 
     -- after the rows of a whole strip
     after_rows : (end : End) (rows : ℕ) → rows ≡ (strip_form here.form s).rows → (test : Bool)
@@ -217,21 +235,27 @@ module _ (by_place : AreBitsByIndex) (lines_read : LinesAreRead) (chains : Files
     -- a strip that has notes
     goes : (end : End) (notes : List Note) (to : Next) (found : Option (List ℕ))
         → strip_bytes here.endian file here.offset s ≡ found
-        → IsStripNoted here.form p s found (goes_on notes to) → RowsFrom file to end
+        → goes_on notes to ≡ noted_strip here.form p s found → RowsFrom file to end
         → (items : List RowItem) × AreFrom (IsRow file) first items end
     goes end notes to None none is more = absurd (cc (is))
-    goes end notes to (Some bytes) there (rows, found, noted, is, to_is) more =
-        let strip : IsStrip (strip_form here.form s) (bits here.form.order bytes) rows None =
-        record { remaining = noted.remaining; lines = noted.lines } in
-        let read = strip_rows by_place lines_read file here.endian here.offset here.form p pages whole s
-        (whole.needed s upcoming) bytes there rows None strip in
-        let count = strip_count (strip_form here.form s) (bits here.form.order bytes) rows None strip in
-        let later = after_rows end (length rows) count (s + 1 == here.form.strips) refl
-        (subst (λ (t : Next). RowsFrom file t end) to_is more) in (
-          read.items ++ later.0,
-          joined (IsRow file) first read.to read.items later.0 end read.lead
-              (rw read.there later.1),
-        )
+    goes end notes to (Some bytes) there is more =
+        by (noted strip (bits here.form.order bytes)) (found_as strip (bits here.form.order bytes)) is
+      where
+        by : (found : Found) → IsFoundAs strip (bits here.form.order bytes) found
+            → goes_on notes to ≡ noted_by here.form p s found
+            → (items : List RowItem) × AreFrom (IsRow file) first items end
+        by (Err (rows, fault)) has is = absurd (cc (is))
+        by (Ok own) has is =
+            let rows = (read_strip strip (bits here.form.order bytes)).rows in
+            let to_is : to ≡ (if s + 1 == here.form.strips then (p + 1, None) else (p, Some (s + 1))) = cc (is) in
+            let read = strip_rows by_place lines_read file here.endian here.offset here.form p pages whole s
+            (whole.needed s upcoming) bytes there (read_strip strip (bits here.form.order bytes)).rows None has in
+            let count = strip_count strip (bits here.form.order bytes) rows None has in
+            let later = after_rows end (length rows) count (s + 1 == here.form.strips) refl
+            (subst (λ (t : Next). RowsFrom file t end) to_is more) in (
+              read.items ++ later.0,
+              joined (IsRow file) first read.to read.items later.0 end read.lead (rw read.there later.1),
+            )
 
   agree : (at : Next) (notes : List (List Note)) (end : End) → AreFrom (IsNoted file) at notes end
       → RowsFrom file at end
@@ -252,10 +276,14 @@ module _ (by_place : AreBitsByIndex) (lines_read : LinesAreRead) (chains : Files
 
 -- where notes end properly, that page is after the last one
 in_strip_proper : (form : PageForm) (p s : ℕ) (found : Option (List ℕ))
-    → IsStripNoted form p s found (ends_as EndOfPages)
+    → ends_as EndOfPages ≡ noted_strip form p s found
     → ⊥
 in_strip_proper form p s None is = absurd (cc (is))
-in_strip_proper form p s (Some bytes) (rows, fault, remaining, lines, is) = absurd (cc (is))
+in_strip_proper form p s (Some bytes) is = by (noted (strip_form form s) (bits form.order bytes)) is
+  where
+    by : (found : Found) → ends_as EndOfPages ≡ noted_by form p s found → ⊥
+    by (Ok notes) is = absurd (cc (is))
+    by (Err (rows, fault)) is = absurd (cc (is))
 
 proper_at : (file : List ℕ) (at : Next) (notes : List (List Note)) → AreFrom (IsNoted file) at notes EndOfPages
     → (p : ℕ) × (read_page file (record { page = p; row = 0 }) ≡ Err EndOfPages)
@@ -279,14 +307,14 @@ end_is file items notes EndOfPages are noted =
 end_is file items notes (Fault p r cause) are noted = (refl, refl)
 end_is file items notes Outside are noted = absurd (never_outside file items are)
 
-module _ (strips : StripsAreReadByFunctions)
-    (by_place : AreBitsByIndex) (lines_read : LinesAreRead) (chains : FilesHaveOneChain) (forms : FormsAreWhole) where
+module _ (by_place : AreBitsByIndex) (lines_read : LinesAreRead) (chains : FilesHaveOneChain)
+    (forms : FormsAreWhole) where
   report_is : (file : List ℕ) (report : Report) → read_report file ≡ parts_of report → IsReport file report
   report_is file report e =
       let all = read_rows file in
       let notes = read_notes file in
-      let are = rows_are strips by_place lines_read chains forms file (first_at 0 0) in
-      let noted = all_are chains forms file (noted_is strips file) in
+      let are = rows_are by_place lines_read chains forms file (first_at 0 0) in
+      let noted = all_are chains forms file (noted_is file) in
       let found = agree by_place lines_read chains forms file (0, None) notes.items notes.end noted in
       let same = two_of (files_have_one_items by_place lines_read chains forms file) all.items found.0 all.end notes.end
       are found.1 in
@@ -307,62 +335,35 @@ module _ (strips : StripsAreReadByFunctions)
       }
 
   -- and what is defined is reported
-  module _ (once : StripsAreNotedInOneWay) where
-    strip_of : (form : PageForm) (p s : ℕ) (found : Option (List ℕ)) (step : NextItem (List Note) Next)
-        → IsStripNoted form p s found step → noted_in form p s found ≡ step
-    strip_of form p s None step is = sym is
-    strip_of form p s (Some bytes) (goes_on notes to) (rows, found, noted, is, to_is) =
-        let strip = strip_form form s in
-        let b = bits form.order bytes in
-        let read = (strips strip b rows None noted.remaining).0 noted.lines in
-        let same = once strip b rows rows (strip_notes strip b rows noted.remaining) found
-        (notes_are strips strip b rows noted.remaining noted.lines) noted in
-        let after : Next = if s + 1 == form.strips then (p + 1, None) else (p, Some (s + 1)) in
-        ap (λ (all : StripRead). noted_by form p s b all.rows all.remaining all.end) read
-        ∙ ap (λ (of : StripNotes). goes_on (notes_on_strip p s of) after) same ∙ rw (is, to_is) refl
-    strip_of form p s (Some bytes) (ends_as end) (rows, fault, remaining, lines, is) =
-        let strip = strip_form form s in
-        let b = bits form.order bytes in
-        let read = (strips strip b rows (Some fault) remaining).0 lines in
-        ap (λ (all : StripRead). noted_by form p s b all.rows all.remaining all.end) read ∙ rw is refl
+  single_noted : (file : List ℕ) (at : Next) → IsSingle (IsNoted file at)
+  single_noted file (p, strip) =
+      single_on_page (read_page file (record { page = p; row = 0 }))
+      (λ here (step : NextItem (List Note) Next). step ≡ noted_on file p strip here) ends_as
+      (λ here x y first second. first ∙ sym second)
 
-    single_strip : (form : PageForm) (p s : ℕ) (found : Option (List ℕ)) → IsSingle (IsStripNoted form p s found)
-    single_strip form p s found x y first second =
-        sym (strip_of form p s found x first) ∙ strip_of form p s found y second
+  end_of : (file : List ℕ) (end : End) (pages : ℕ) (fault : Option (Place × Cause))
+      → IsReportedEnd file end pages fault → (pages_to file end ≡ pages) × (fault_and_place end ≡ fault)
+  end_of file EndOfPages pages fault is = (sym (count_is file pages is.0), sym is.1)
+  end_of file (Fault p r cause) pages fault is = (sym is.0, sym is.1)
+  end_of file Outside pages fault is = absurd is
 
-    single_noted : (file : List ℕ) (at : Next) → IsSingle (IsNoted file at)
-    single_noted file (p, None) =
-        single_on_page (read_page file (record { page = p; row = 0 }))
-        (λ here (step : NextItem (List Note) Next). step ≡ noted_on file p None here) ends_as
-        (λ here x y first second. first ∙ sym second)
-    single_noted file (p, Some s) =
-        single_on_page (read_page file (record { page = p; row = 0 }))
-        (λ here. IsStripNoted here.form p s (strip_bytes here.endian file here.offset s)) ends_as
-        (λ here. single_strip here.form p s (strip_bytes here.endian file here.offset s))
+  report_of : (file : List ℕ) (report : Report) → IsReport file report → read_report file ≡ parts_of report
+  report_of file report is =
+      let all = read_rows file in
+      let notes = read_notes file in
+      let rows = two_of (files_have_one_items by_place lines_read chains forms file) all.items is.items all.end is.end
+      (rows_are by_place lines_read chains forms file (first_at 0 0)) is.read in
+      let noted = single_from (IsNoted file) (single_noted file) (0, None) notes.items is.notes notes.end is.end
+      (all_are chains forms file (noted_is file)) is.noted in
+      let ends = end_of file is.end report.pages report.fault is.end_is in
+      parts (ap (flat_map (λ (own : List Note). own)) noted.0 ∙ sym is.notes_are)
+      (ap (pages_to file) rows.1 ∙ ends.0)
+      (ap (λ (l : List RowItem). length l) rows.0 ∙ sym is.rows_are) (ap fault_and_place rows.1 ∙ ends.1)
+    where
+      parts : {a b : List Note} {c d e f : ℕ} {g h : Option (Place × Cause)} → a ≡ b → c ≡ d → e ≡ f → g ≡ h
+          → ◌≡◌ {A = ReportRead} (record { notes = a; pages = c; rows = e; fault = g })
+          (record { notes = b; pages = d; rows = f; fault = h })
+      parts first second third fourth = cc (first, second, third, fourth)
 
-    end_of : (file : List ℕ) (end : End) (pages : ℕ) (fault : Option (Place × Cause))
-        → IsReportedEnd file end pages fault → (pages_to file end ≡ pages) × (fault_and_place end ≡ fault)
-    end_of file EndOfPages pages fault is = (sym (count_is file pages is.0), sym is.1)
-    end_of file (Fault p r cause) pages fault is = (sym is.0, sym is.1)
-    end_of file Outside pages fault is = absurd is
-
-    report_of : (file : List ℕ) (report : Report) → IsReport file report → read_report file ≡ parts_of report
-    report_of file report is =
-        let all = read_rows file in
-        let notes = read_notes file in
-        let rows = two_of (files_have_one_items by_place lines_read chains forms file) all.items is.items all.end is.end
-        (rows_are strips by_place lines_read chains forms file (first_at 0 0)) is.read in
-        let noted = single_from (IsNoted file) (single_noted file) (0, None) notes.items is.notes notes.end is.end
-        (all_are chains forms file (noted_is strips file)) is.noted in
-        let ends = end_of file is.end report.pages report.fault is.end_is in
-        parts (ap (flat_map (λ (own : List Note). own)) noted.0 ∙ sym is.notes_are)
-        (ap (pages_to file) rows.1 ∙ ends.0)
-        (ap (λ (l : List RowItem). length l) rows.0 ∙ sym is.rows_are) (ap fault_and_place rows.1 ∙ ends.1)
-      where
-        parts : {a b : List Note} {c d e f : ℕ} {g h : Option (Place × Cause)} → a ≡ b → c ≡ d → e ≡ f → g ≡ h
-            → ◌≡◌ {A = ReportRead} (record { notes = a; pages = c; rows = e; fault = g })
-            (record { notes = b; pages = d; rows = f; fault = h })
-        parts first second third fourth = cc (first, second, third, fourth)
-
-    pub reports_graph : ReportsAreReadByAFunction
-    reports_graph file report = (report_of file report, report_is file report)
+  pub reports_graph : ReportsAreReadByAFunction
+  reports_graph file report = (report_of file report, report_is file report)

@@ -5,7 +5,6 @@ use Rattle.std.specs.Prelude.{MatchResult, if◌then◌else◌}
 use Rattle.std.proofs.lemmas.Bool.Decides.{nat_tests}
 use Rattle.std.proofs.lemmas.Slice.Eq.{bytes_eq-Decides}
 use Rattle.fax_bits.specs.laws.Codes.{AreBitsByIndex}
-use Rattle.fax_page.specs.laws.StripGraphs.{StripsAreReadByFunctions}
 use Rattle.fax_files.specs.laws.TiffFiles.{FilesHaveOneChain, FormsAreWhole}
 use Rattle.fax_walk.specs.declared.walk_start.WalkStart.{WalkStart}
 use Rattle.fax_walk.specs.declared.walk_start.WalkStart.TheVariants.{AtCursor, AtLongCursor}
@@ -48,10 +47,10 @@ module _ (file : List ℕ) (here : FilePage) (place : LongCursorValue) where
   by_test true e = inl (is_inner e, refl)
   by_test false e = inr (λ is. let yes = inner_is is in absurd cc, refl)
 
-begun_on : (file : List ℕ) (origin : WalkStart) (here : FilePage)
+started_on : (file : List ℕ) (origin : WalkStart) (here : FilePage)
     → StartsOnPage file origin here (begin_on file origin here)
-begun_on file (AtCursor at) here = refl
-begun_on file (AtLongCursor place) here = by_test file here place (is_inner_on file here place) refl
+started_on file (AtCursor at) here = refl
+started_on file (AtLongCursor place) here = by_test file here place (is_inner_on file here place) refl
 
 module _ (chains : FilesHaveOneChain) (file : List ℕ) where
   forms_by : (begin : Result ℕ End)
@@ -64,9 +63,8 @@ module _ (chains : FilesHaveOneChain) (file : List ℕ) where
   form_tail_is : (at : Cursor) → IsFormTail file at (read_form_tail file at).items (read_form_tail file at).end
   form_tail_is at = forms_by (first_page file at)
 
-module _ (strips : StripsAreReadByFunctions)
-    (by_place : AreBitsByIndex)
-    (lines_read : LinesAreRead) (chains : FilesHaveOneChain) (forms : FormsAreWhole) where
+module _ (by_place : AreBitsByIndex) (lines_read : LinesAreRead) (chains : FilesHaveOneChain)
+    (forms : FormsAreWhole) where
   module _ (file : List ℕ) where
     rows_by : (begin : Result (RowPosition × ℕ) End)
         → MatchResult begin (λ from. (all : List RowItem) × AreFrom (IsRow file) from.0 all (tail_from file begin).end
@@ -75,7 +73,7 @@ module _ (strips : StripsAreReadByFunctions)
     rows_by (Err none) = (refl, refl)
     rows_by (Ok from) = (
       (rows_from file from.0).items,
-      rows_are strips by_place lines_read chains forms file from.0,
+      rows_are by_place lines_read chains forms file from.0,
       refl,
     )
 
@@ -86,7 +84,7 @@ module _ (strips : StripsAreReadByFunctions)
           (λ here (begin : Result (RowPosition × ℕ) End). StartsOnPage file origin here begin) Err
           (λ found. found >>= begin_on file origin)
           (λ end. refl)
-          (begun_on file origin),
+          (started_on file origin),
       rows_by (read_page file (start_cursor origin) >>= begin_on file origin),
     )
 

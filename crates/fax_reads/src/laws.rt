@@ -23,7 +23,6 @@ pub fn examples_are_read()
 pub fn files_are_read_by_functions()
     ensures { FilesAreReadByFunctions }
 {
-    fax_page::laws::strips_are_read_by_functions();
     fax_bits::laws::bits_stand_by_index();
     fax_page::laws::lines_are_read_in_one_way();
     fax_files::laws::files_have_one_chain();
@@ -42,7 +41,6 @@ pub fn worked_files_are_read()
 pub fn tails_are_read_by_functions()
     ensures { TailsAreReadByFunctions }
 {
-    fax_page::laws::strips_are_read_by_functions();
     fax_bits::laws::bits_stand_by_index();
     fax_page::laws::lines_are_read_in_one_way();
     fax_files::laws::files_have_one_chain();
@@ -73,12 +71,10 @@ pub fn codes_are_chosen_so()
 pub fn reports_are_read_by_a_function()
     ensures { ReportsAreReadByAFunction }
 {
-    fax_page::laws::strips_are_read_by_functions();
     fax_bits::laws::bits_stand_by_index();
     fax_page::laws::lines_are_read_in_one_way();
     fax_files::laws::files_have_one_chain();
     fax_files::laws::forms_are_whole();
-    fax_page::laws::strips_are_noted_in_one_way();
 }
 
 /// Worked files have the reports that are meant.

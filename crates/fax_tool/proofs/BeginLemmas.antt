@@ -8,7 +8,7 @@ use Rattle.fax_tool.specs.Grammar.{Text}
 use Rattle.fax_tool.specs.Text.{AtCursor, WalkStart, Cursor, AtLongCursor}
 use Rattle.fax_walk.specs.views.Walk.{start_place}
 use Rattle.fax_walk.specs.laws.Cursors.{TextsNameOne}
-use Rattle.fax_tool.specs.laws.Runs.{IsBegun}
+use Rattle.fax_tool.specs.laws.Runs.{IsStartInRange}
 
 -- what a run begins with: the place inside a strip, where there is one, else the cursor
 abbrev pub started_at : Option LongCursorValue → Cursor → WalkStart
@@ -27,10 +27,10 @@ pub inside_of : (place : Option LongCursorValue) (at : Cursor) → start_place (
 inside_of place at = grind arith
 
 -- what a run begins with has one text
-pub one_begun : TextsNameOne → (origin other : WalkStart) → IsBegun origin → IsBegun other
+pub one_started : TextsNameOne → (origin other : WalkStart) → IsStartInRange origin → IsStartInRange other
     → start_text origin ≡ start_text other → origin ≡ other
-one_begun names (AtCursor at) (AtCursor other) is is_too e = ap AtCursor (names.cursors at other is is_too e)
-one_begun names (AtCursor at) (AtLongCursor place) is is_too e = absurd (names.apart at place e)
-one_begun names (AtLongCursor place) (AtCursor at) is is_too e = absurd (names.apart at place (sym e))
-one_begun names (AtLongCursor place) (AtLongCursor other) is is_too e = ap AtLongCursor (names.places place other is
+one_started names (AtCursor at) (AtCursor other) is is_too e = ap AtCursor (names.cursors at other is is_too e)
+one_started names (AtCursor at) (AtLongCursor place) is is_too e = absurd (names.apart at place e)
+one_started names (AtLongCursor place) (AtCursor at) is is_too e = absurd (names.apart at place (sym e))
+one_started names (AtLongCursor place) (AtLongCursor other) is is_too e = ap AtLongCursor (names.places place other is
     is_too e)

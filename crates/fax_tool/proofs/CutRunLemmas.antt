@@ -14,10 +14,11 @@ use Rattle.fax_walk.specs.laws.Cursors.{CursorsAreShort, PlacesAreShort, TextsNa
 use Rattle.fax_walk.specs.laws.Tails.{BeginningsHaveOneTail, IsReached, LongTailsGoOn, PlacesAreReached, TailsGoOn}
 use Rattle.fax_walk.specs.Items.{RowItem as Item, IsTailFrom, start_text, cursor_after, long_after}
 use Rattle.fax_tool.specs.Run.{AreRowLines}
-use Rattle.fax_tool.proofs.BeginLemmas.{started_at, one_begun}
+use Rattle.fax_tool.proofs.BeginLemmas.{started_at, one_started}
 use Rattle.fax_tool.specs.Text.{PrintedLine, Printed, named, next_after, next_line, text_of, end_text, is_cut}
 use Rattle.fax_tool.specs.Text.{line_of_row, texts_of, up_to}
-use Rattle.fax_tool.specs.laws.Runs.{AreAsOneRun, AreRunsOfRows, CutRunsAreReadOn, IsBegun, IsReadAfter, IsRunOfRows}
+use Rattle.fax_tool.specs.laws.Runs.{AreAsOneRun, AreRunsOfRows, CutRunsAreReadOn, IsStartInRange, IsReadAfter}
+use Rattle.fax_tool.specs.laws.Runs.{IsRunOfRows}
 use Rattle.fax_tool.specs.laws.Runs.{MayBegin, RunsGoOn}
 use Rattle.fax_tool.proofs.LineLemmas.{begins_after, next_after-append, one_rows}
 use Rattle.fax_tool.proofs.TextLemmas.{all_taken}
@@ -111,11 +112,11 @@ module _ (tails : BeginningsHaveOneTail) (go_on : TailsGoOn) (long_go_on : LongT
   reached : (long : Bool) (origin : WalkStart) → MayBegin file long origin → IsReached file origin
   reached long origin may = grind arith
 
-  is_begun : (long : Bool) (origin : WalkStart) → MayBegin file long origin → IsBegun origin
-  is_begun long origin may = grind arith
+  is_started : (long : Bool) (origin : WalkStart) → MayBegin file long origin → IsStartInRange origin
+  is_started long origin may = grind arith
 
-  named_begun : (long : Bool) (origin : WalkStart) → MayBegin file long origin → named long origin ≡ origin
-  named_begun long origin may = grind arith
+  named_started : (long : Bool) (origin : WalkStart) → MayBegin file long origin → named long origin ≡ origin
+  named_started long origin may = grind arith
 
   -- what a run begins with that continues after some items
   record GoesOn (long : Bool) (next : WalkStart) (items : List Item) (end : End) : Type 0 where
@@ -172,8 +173,8 @@ module _ (tails : BeginningsHaveOneTail) (go_on : TailsGoOn) (long_go_on : LongT
       → MayBegin file long origin
       → AreRowLines file origin lines end
       → LinesGoOn long (named long (next_after origin (take n lines))) (drop n lines) end
-  after_lines long origin zero lines end may are = rw (named_begun long origin may) (record { are = are; may = may })
-  after_lines long origin (suc n) [] end may are = rw (named_begun long origin may) (record { are = are; may = may })
+  after_lines long origin zero lines end may are = rw (named_started long origin may) (record { are = are; may = may })
+  after_lines long origin (suc n) [] end may are = rw (named_started long origin may) (record { are = are; may = may })
   after_lines long origin (suc n) (line ∷ lines) end may are =
       let next = after_line long origin line lines end may are in
       rw (← named_after long line.next (take n lines))
@@ -215,8 +216,8 @@ module _ (tails : BeginningsHaveOneTail) (go_on : TailsGoOn) (long_go_on : LongT
       let output : (text_of long limit origin lines end).output ≡ texts_of (up_to limit lines) ++ next_line next =
       ap (λ (printed : Printed). printed.output) (sym text_is) ∙ (rw first_is at final_end.is) in
       let next_is : next ≡ named long (next_after origin (up_to limit lines)) =
-      sym (one_begun names (named long (next_after origin (up_to limit lines))) next
-      (is_begun long (named long (next_after origin (up_to limit lines))) goes.may) final_end.limits
+      sym (one_started names (named long (next_after origin (up_to limit lines))) next
+      (is_started long (named long (next_after origin (up_to limit lines))) goes.may) final_end.limits
       (next_told long limit origin lines end next output)) in
       let later = all_runs limits long (named long (next_after origin (up_to limit lines))) max others rows last cut
       (lines_left limit lines) end goes.may goes.are (rw next_is at runs) in
@@ -233,7 +234,7 @@ module _ (tails : BeginningsHaveOneTail) (go_on : TailsGoOn) (long_go_on : LongT
       let text_is : text.output ≡ rows ++ next_line next =
       ap (λ (printed : Printed). printed.output) (run.text_is ∙ cut_text max run.cut_is)
       ∙ ap (λ (l : List ℕ). l ++ next_line next) (sym run.rows_are) in
-      (next, record { limits = is_begun long next goes.may; is = text_is })
+      (next, record { limits = is_started long next goes.may; is = text_is })
     where
       cut_text : (max : Option ℕ) → true ≡ is_cut max run.lines
           → text_of long max origin run.lines run.end ≡ first_text long origin (up_to max run.lines)

@@ -126,17 +126,18 @@ module _ {tail now : List PrintedLine → End → Type 0} (one : IsOne tail) {gi
         counts refusal first_lines given_in_part)
 
     -- memory was refused, and the lines so far and where to continue were to be written
-    pub stopped_for_memory : (now_begun : WalkStart) (cursor : Cursor) (new_written : Option (List ℕ)) (shown line :
+    pub stopped_for_memory : (now_started : WalkStart) (cursor : Cursor) (new_written : Option (List ℕ)) (shown line :
         List ℕ)
-        (counts : Counts) (refusal : Refusal) → now_begun ≡ origin
-        → ((from : WalkStart) × IsNextAfter now now_begun given from × (cursor ≡ start_cursor from)) → shown ≡ text
+        (counts : Counts) (refusal : Refusal) → now_started ≡ origin
+        → ((from : WalkStart) × IsNextAfter now now_started given from × (cursor ≡ start_cursor from)) → shown ≡ text
         → line ≡ next_line (AtCursor cursor)
         → StopsWith (shown ++ line) refusal (output_after written new_written counts)
         → StopsPrinting NoText (IsTextOfFirst tail max origin) refusal (output_after output new_written counts)
-    stopped_for_memory now_begun cursor new_written shown line counts refusal same_begun (from, after, at) same line_is
+    stopped_for_memory now_started cursor new_written shown line counts refusal same_started (from, after, at) same
+        line_is
         stops =
         let are = lines_are after.lines after.end after.is in
-        let from_is : from ≡ next_after origin (take given some.lines) = rw (← same_begun, ← are.0) after.next_is in
+        let from_is : from ≡ next_after origin (take given some.lines) = rw (← same_started, ← are.0) after.next_is in
         let next_is : line ≡ next = rw (line_is, at, from_is) in
         stops_after NoText NoText (λ (t : List ℕ). t ≡ shown ++ line) (IsTextOfFirst tail max origin) refusal output
         written new_written counts some.sent some.printed (λ printed none. absurd none)

@@ -78,7 +78,8 @@ by_ending lines end count long max origin ending h = grind (arith, whole_ended)
 
 module _ {tail now : List PrintedLine → End → Type 0} (one : IsOne tail)
     (same : (all : List PrintedLine) (end : End) → tail all end ↔ now all end)
-    {origin now_begun : WalkStart} (same_begun : now_begun ≡ origin) (long : Bool) {max : Option ℕ} {ending : Option
+    {origin now_started : WalkStart} (same_started : now_started
+    ≡ origin) (long : Bool) {max : Option ℕ} {ending : Option
     End}
     {count : ℕ} {output written : Option (List ℕ)} (prints : PrintsLines tail max ending count output written) where
   ended : IsEndedText prints.lines prints.end count long max origin ending
@@ -87,20 +88,20 @@ module _ {tail now : List PrintedLine → End → Type 0} (one : IsOne tail)
   abbrev texts : List ℕ
   texts = texts_of (take count prints.lines)
 
-  last_is : (line : List ℕ) (met : Option End) → IsLastLine now now_begun count long met line
+  last_is : (line : List ℕ) (met : Option End) → IsLastLine now now_started count long met line
       → line ≡ ending_text met (named long (next_after origin (take count prints.lines)))
   last_is line met is = grind arith
 
-  whole : (line : List ℕ) → IsLastLine now now_begun count long ending line
+  whole : (line : List ℕ) → IsLastLine now now_started count long ending line
       → (text_of long max origin prints.lines prints.end).output ≡ texts ++ line
   whole line is = ended.output ∙ ap (λ (l : List ℕ). texts ++ l) (sym (last_is line ending is))
 
-  first : (line : List ℕ) → IsNextLine now now_begun count false line → IsTextOfFirst tail max origin (texts ++ line)
+  first : (line : List ℕ) → IsNextLine now now_started count false line → IsTextOfFirst tail max origin (texts ++ line)
   first line is = grind arith
 
   -- the lines and the last line are printed
   pub all_printed : (new_written : Option (List ℕ)) (counts : Counts) (line : List ℕ)
-      → IsLastLine now now_begun count long ending line → Appends written new_written line
+      → IsLastLine now now_started count long ending line → Appends written new_written line
       → WritesOutput (IsTextOfLines tail long max origin) (output_after output new_written counts) (end_line ending)
   all_printed new_written counts line is moved = record {
     printed = text_of long max origin prints.lines prints.end;
@@ -113,14 +114,14 @@ module _ {tail now : List PrintedLine → End → Type 0} (one : IsOne tail)
 
   -- the last line was refused
   pub stopped_at_last : (new_written : Option (List ℕ)) (counts : Counts) (refusal : Refusal)
-      → StopsPrinting (λ printed. IsLastLine now now_begun count long ending printed.output)
-      (IsNextLine now now_begun count false) refusal (output_after written new_written counts)
+      → StopsPrinting (λ printed. IsLastLine now now_started count long ending printed.output)
+      (IsNextLine now now_started count false) refusal (output_after written new_written counts)
       → StopsPrinting (IsTextOfLines tail long max origin) (IsTextOfFirst tail max origin) refusal
       (output_after output new_written counts)
   stopped_at_last new_written counts refusal stops =
-      stops_after (λ printed. IsLastLine now now_begun count long ending printed.output)
+      stops_after (λ printed. IsLastLine now now_started count long ending printed.output)
       (IsTextOfLines tail long max origin)
-      (IsNextLine now now_begun count false) (IsTextOfFirst tail max origin) refusal output written new_written counts
+      (IsNextLine now now_started count false) (IsTextOfFirst tail max origin) refusal output written new_written counts
       (texts_of (take count prints.lines)) prints.printed
       (λ printed is. (
         text_of long max origin prints.lines prints.end,

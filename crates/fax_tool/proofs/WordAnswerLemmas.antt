@@ -16,8 +16,8 @@ use Rattle.fax_tool.specs.Text.{WalkStart}
 use Rattle.fax_walk.specs.declared.options.Options.{Options}
 use Rattle.fax_walk.specs.declared.options.Target.TheVariants.{Mmr, Pbm}
 use Rattle.fax_walk.specs.views.Walk.{start_place}
-use Rattle.fax_tool.specs.laws.Runs.{IsBegun}
-use Rattle.fax_tool.proofs.BeginLemmas.{StartsBy, inside_of, one_begun}
+use Rattle.fax_tool.specs.laws.Runs.{IsStartInRange}
+use Rattle.fax_tool.proofs.BeginLemmas.{StartsBy, inside_of, one_started}
 use Rattle.fax_tool.specs.Job.{AreOptions, Given, HasCursors, HasNoCursor, HasNoTarget, IsCommand, IsFault, IsJob}
 use Rattle.fax_tool.specs.Job.{IsJobFault, IsJobOfCommand, IsPart, is_set}
 use Rattle.fax_tool.specs.Run.{origin_of}
@@ -67,9 +67,9 @@ usage_or_no_cursor words (inr refused) no_cursor = grind arith
 
 -- a text of no cursor, nor of a long one where the part may have one, names nothing that the part
 -- begins with
-no_begun : (o : Option Text) (text : Text) (part : Selection) → o ≡ Some text → HasCursors (Rows part)
+no_started : (o : Option Text) (text : Text) (part : Selection) → o ≡ Some text → HasCursors (Rows part)
     → StartsBy o (origin_of part) → IsNoCursor text → (part.from ≡ None) ⊎ IsNoLongCursor text → ⊥
-no_begun o text part given in_range begins none others = grind arith
+no_started o text part given in_range begins none others = grind arith
 
 -- the cursors of a part with no place inside a strip
 without_place : (part : Selection) → part.from ≡ None → IsCursor part.cursor → HasCursors (Rows part)
@@ -77,7 +77,7 @@ without_place part none in_range = (in_range, rw none tt)
 
 command_or_no_cursor : (name : Text) (given : Given) (command : Command) → HasCursors command
     → IsCommand name given command → HasNoCursor name given → ⊥
-command_or_no_cursor name given command in_range is none = grind (arith, no_begun)
+command_or_no_cursor name given command in_range is none = grind (arith, no_started)
 
 job_or_no_cursor : (words : List Text) (job : Job) → IsJobOfCommand words job → IsJobFault words NotACursor → ⊥
 job_or_no_cursor words job is none =
@@ -86,21 +86,21 @@ job_or_no_cursor words job is none =
     (subst (λ (c : Text × Given). HasNoCursor c.0 c.1) same none.command)
 
 -- the numbers of what a part begins with are in their ranges
-begun_in_range : (part : Selection) → HasCursors (Rows part) → IsBegun (origin_of part)
-begun_in_range part in_range = grind arith
+started_in_range : (part : Selection) → HasCursors (Rows part) → IsStartInRange (origin_of part)
+started_in_range part in_range = grind arith
 
 -- a text names one thing to begin with
-one_named : TextsNameOne → (o : Option Text) (origin other : WalkStart) → IsBegun origin → IsBegun other
+one_named : TextsNameOne → (o : Option Text) (origin other : WalkStart) → IsStartInRange origin → IsStartInRange other
     → StartsBy o origin
     → StartsBy o other → origin ≡ other
-one_named names o origin other in_range in_range' is is' = grind (arith, one_begun)
+one_named names o origin other in_range in_range' is is' = grind (arith, one_started)
 
 one_part : TextsNameOne → (given : Given) (long : Bool) (part other : Selection) → HasCursors (Rows part)
     → HasCursors (Rows other) → IsPart given long part → IsPart given long other → part ≡ other
 one_part names given long part other in_range in_range' first second =
-    let origin = one_named names (given (codes "cursor")) (origin_of part) (origin_of other) (begun_in_range part
+    let origin = one_named names (given (codes "cursor")) (origin_of part) (origin_of other) (started_in_range part
     in_range)
-    (begun_in_range other in_range') first.begins second.begins in
+    (started_in_range other in_range') first.begins second.begins in
     let cursor = first.cursor ∙ ap start_cursor origin ∙ sym second.cursor in
     let from = sym (inside_of part.from part.cursor) ∙ ap start_place origin ∙ inside_of other.from other.cursor in
     let max = first.max ∙ sym second.max in

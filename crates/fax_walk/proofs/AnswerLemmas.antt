@@ -1,21 +1,13 @@
 -- What is converted has one output or one fault, and what is checked has one report.
 use Rattle.std.proofs.lemmas.Grind.{common_steps}
-use Rattle.std.proofs.Common.{arith, ◌≡◌, ℕ, List, length, Option, Some, None, Err, Bool, refl, ap, sym}
+use Rattle.std.proofs.Common.{arith, ◌≡◌, ℕ, List, length, Option, None, Err, refl, ap, sym}
 use Rattle.std.proofs.Common.{◌∙◌, subst}
 use Rattle.std.proofs.Common.{inl, inr, codes}
 use Rattle.std.specs.Prelude.{flat_map}
-use Rattle.fax_bits.specs.Bits.{bits, StartsWith}
-use Rattle.fax_bits.specs.declared.Colour.{Colour}
+use Rattle.fax_bits.specs.Bits.{StartsWith}
 use Rattle.fax_files.specs.declared.Cause.{Cause}
-use Rattle.fax_files.specs.declared.PageForm.{PageForm}
-use Rattle.fax_files.specs.Page.{strip_form}
 use Rattle.fax_files.specs.laws.Pbm.{ImagesAreReadInOneWay}
-use Rattle.fax_page.specs.declared.StripFault.{StripFault}
-use Rattle.fax_page.specs.declared.StripForm.{StripForm}
-use Rattle.fax_page.specs.declared.notes.StripNotes.{StripNotes}
-use Rattle.fax_page.specs.Strip.{IsNotedAs}
-use Rattle.fax_page.specs.views.Strip.{IsStrip}
-use Rattle.fax_page.specs.laws.Strips.{ReadsStripsOneWay, StripsAreNotedInOneWay}
+use Rattle.fax_walk.specs.declared.checking.Note.{Note}
 use Rattle.fax_walk.specs.declared.end.End.{End}
 use Rattle.fax_walk.specs.declared.end.End.TheVariants.{Fault, Outside, EndOfPages}
 use Rattle.fax_walk.specs.declared.options.ConvertFault.{ConvertFault}
@@ -24,8 +16,8 @@ use Rattle.fax_walk.specs.declared.options.Options.{Options}
 use Rattle.fax_walk.specs.declared.walk.Place.{Place}
 use Rattle.fax_walk.specs.Converted.{IsConverted, IsNotConverted, IsSource, IsTiff, IsTooLarge, SourcePage, pages_of}
 use Rattle.fax_walk.specs.Converted.{target_bytes}
-use Rattle.fax_walk.specs.Pages.{AreFrom, read_page, goes_on, ends_as}
-use Rattle.fax_walk.specs.Report.{IsNoted, IsReportedEnd, IsStripNoted}
+use Rattle.fax_walk.specs.Pages.{AreFrom, NextItem, read_page, ends_as}
+use Rattle.fax_walk.specs.Report.{IsNoted, IsReportedEnd, noted_on}
 use Rattle.fax_walk.specs.Items.{AreItems, RowItem}
 use Rattle.fax_walk.specs.laws.Answers.{BytesAreConvertedInOneWay, FilesHaveOneReport}
 use Rattle.fax_walk.specs.laws.Tails.{FilesHaveOneForms, FilesHaveOneItems}
@@ -127,54 +119,23 @@ module _ (file : List ℕ) where
       → IsReportedEnd file end others other → (pages ≡ others) × (fault ≡ other)
   one_end end pages others fault other first second = grind (arith, proper_once)
 
-module _ (strips_once : (form : StripForm) → ReadsStripsOneWay form) (noted_once : StripsAreNotedInOneWay) where
-  -- a strip that has notes has no fault
-  noted_or_fault : (form : StripForm) (b : List Bool) (rows others : List (List Colour)) (found : StripNotes)
-      (fault : StripFault)
-      → IsNotedAs form b rows found → IsStrip form b others (Some fault) → ⊥
-  noted_or_fault form b rows others found fault noted strip =
-      let whole : IsStrip form b rows None = record { remaining = noted.remaining; lines = noted.lines } in
-      let same = (two_of (strips_once form b) rows others None (Some fault) whole strip).1 in
-      cc same
+single_noted : (file : List ℕ) (at : ℕ × Option ℕ) → IsSingle (IsNoted file at)
+single_noted file (p, strip) =
+    single_on_page (read_page file (record { page = p; row = 0 }))
+    (λ here (step : NextItem (List Note) (ℕ × Option ℕ)). step ≡ noted_on file p strip here) ends_as
+    (λ here x y first second. first ∙ sym second)
 
-  single_strip : (form : PageForm) (p s : ℕ) (bytes : Option (List ℕ)) → IsSingle (IsStripNoted form p s bytes)
-  single_strip form p s None x y first second = first ∙ sym second
-  single_strip form p s (Some bytes) (goes_on notes to) (goes_on others place) (rows, found, noted, is, to_is)
-      (rows', found', noted', is', to_is') =
-      let same = noted_once (strip_form form s) (bits form.order bytes) rows rows' found found' noted noted' in
-      cc
-  single_strip form p s (Some bytes) (goes_on notes to) (ends_as end) (rows, found, noted, is, to_is)
-      (rows', fault, remaining, lines, is') =
-      absurd (noted_or_fault (strip_form form s) (bits form.order bytes) rows rows' found fault noted
-      (record { remaining = remaining; lines = lines }))
-  single_strip form p s (Some bytes) (ends_as end) (goes_on others place) (rows', fault, remaining, lines, is')
-      (rows, found, noted, is, to_is) =
-      absurd (noted_or_fault (strip_form form s) (bits form.order bytes) rows rows' found fault noted
-      (record { remaining = remaining; lines = lines }))
-  single_strip form p s (Some bytes) (ends_as end) (ends_as other) (rows, fault, remaining, lines, is)
-      (rows', fault', left', lines', is') =
-      let b = bits form.order bytes in
-      let strip : IsStrip (strip_form form s) b rows (Some fault) = record { remaining = remaining; lines = lines } in
-      let strip' : IsStrip (strip_form form s) b rows' (Some fault') = record { remaining = left'; lines = lines' } in
-      let same = two_of (strips_once (strip_form form s) b) rows rows' (Some fault) (Some fault') strip strip' in
-      let faults : fault ≡ fault' = cc (same.1) in
-      cc (same.0)
-
-  module _ (file : List ℕ) where
-    single_noted : (at : ℕ × Option ℕ) → IsSingle (IsNoted file at)
-    single_noted at = grind (arith, single_on_page, single_strip)
-
-  pub files_have_one_report : FilesHaveOneItems → FilesHaveOneReport
-  files_have_one_report one_items file report other first second =
-      let rows = two_of (one_items file) first.items second.items first.end second.end first.read second.read in
-      let end_is = subst (λ (e : End). IsReportedEnd file e other.pages other.fault) (sym rows.1) second.end_is in
-      let ends = one_end file first.end report.pages other.pages report.fault other.fault first.end_is end_is in
-      let noted = subst (λ (e : End). AreFrom (IsNoted file) (0, None) second.notes e) (sym rows.1) second.noted in
-      let notes = single_from (IsNoted file) (single_noted file) (0, None) first.notes second.notes first.end
-      first.end first.noted noted in
-      record {
-        notes = first.notes_are ∙ ap (λ l. flat_map (λ own. own) l) notes.0 ∙ sym second.notes_are;
-        pages = ends.0;
-        rows = first.rows_are ∙ ap (λ l. length l) rows.0 ∙ sym second.rows_are;
-        fault = ends.1;
-      }
+pub files_have_one_report : FilesHaveOneItems → FilesHaveOneReport
+files_have_one_report one_items file report other first second =
+    let rows = two_of (one_items file) first.items second.items first.end second.end first.read second.read in
+    let end_is = subst (λ (e : End). IsReportedEnd file e other.pages other.fault) (sym rows.1) second.end_is in
+    let ends = one_end file first.end report.pages other.pages report.fault other.fault first.end_is end_is in
+    let noted = subst (λ (e : End). AreFrom (IsNoted file) (0, None) second.notes e) (sym rows.1) second.noted in
+    let notes = single_from (IsNoted file) (single_noted file) (0, None) first.notes second.notes first.end
+    first.end first.noted noted in
+    record {
+      notes = first.notes_are ∙ ap (λ l. flat_map (λ own. own) l) notes.0 ∙ sym second.notes_are;
+      pages = ends.0;
+      rows = first.rows_are ∙ ap (λ l. length l) rows.0 ∙ sym second.rows_are;
+      fault = ends.1;
+    }

@@ -9,7 +9,7 @@ use Rattle.fax_files.specs.declared.FileFault.{FileFault}
 use Rattle.fax_files.specs.declared.Cause.TheVariants.{File}
 use Rattle.fax_files.specs.declared.PageForm.{PageForm}
 use Rattle.fax_files.specs.Directory.{ChainRead, header}
-use Rattle.fax_files.specs.views.Chain.{ChainState, after_answer, chain_of, due_answer}
+use Rattle.fax_files.specs.views.Chain.{ChainState, after_answer, chain_of, upcoming_answer}
 use Rattle.fax_files.specs.views.Tiff.{TiffDirectory, directory_of, form_of}
 use Rattle.fax_walk.specs.declared.cursor.Cursor.{Cursor}
 use Rattle.fax_walk.specs.declared.end.End.{End}
@@ -18,7 +18,7 @@ use Rattle.fax_walk.specs.Pages.{chain_end, page_with_form, read_page}
 use Rattle.fax_walk.specs.code.Opening.{EndsAt, IsChainBefore, IsFilePage, IsNamed, IsNoPage, IsPageAnswer}
 use Rattle.fax_walk.specs.code.Opening.{UpcomingPage}
 use Rattle.fax_walk.specs.code.Opening.{page_with}
-use Rattle.fax_walk.proofs.OpeningLemmas.{due_some, due_none, due_fault}
+use Rattle.fax_walk.proofs.OpeningLemmas.{upcoming_some, upcoming_none, upcoming_fault}
 use Rattle.fax_walk.proofs.PageLawLemmas.{none_here, none_past, page_here, proper_end}
 
 -- after more pages than a chain has, all is outside
@@ -37,14 +37,18 @@ no_header file at fault bad = rw (bad, read_page) refl
 -- a directory stands there
 pub goes_on : (file : List ℕ) (number : ℕ) (chain new : ChainState) (answer : Result (Option TiffDirectory) FileFault)
     (directory : TiffDirectory)
-    → IsChainBefore file number chain → answer ≡ due_answer chain → answer ≡ Ok (Some directory)
+    → IsChainBefore file number chain → answer ≡ upcoming_answer chain → answer ≡ Ok (Some directory)
     → new ≡ after_answer chain answer
     → IsChainBefore file (number + 1) new
-goes_on file number chain new answer directory before upcoming is counted = grind (arith, due_some, slice_get_within)
+goes_on file number chain new answer directory before upcoming is counted = grind (
+  arith,
+  upcoming_some,
+  slice_get_within,
+)
 
 -- a file's chain before a directory, and what it returns for it
 module _ (file : List ℕ) (number : ℕ) (chain : ChainState) (answer : Result (Option TiffDirectory) FileFault)
-    (before : IsChainBefore file number chain) (upcoming : answer ≡ due_answer chain) where
+    (before : IsChainBefore file number chain) (upcoming : answer ≡ upcoming_answer chain) where
   abbrev its : ChainRead
   its = chain_of chain.tiff
 
@@ -59,7 +63,7 @@ module _ (file : List ℕ) (number : ℕ) (chain : ChainState) (answer : Result 
 
   -- where the chain ends properly, and where it ends with a fault
   ended_at : (at : Cursor) → answer ≡ Ok None → number ≤ at.page → read_page file at ≡ Err (chain_end number None at)
-  ended_at at is past = let none = due_none chain answer upcoming is in rw none.1 at (past_chain at none.0 past)
+  ended_at at is past = let none = upcoming_none chain answer upcoming is in rw none.1 at (past_chain at none.0 past)
 
   pub none_before : (at : Cursor) → answer ≡ Ok None → number < at.page → read_page file at ≡ Err Outside
   none_before at is past = rw (outside_past number at past) at (ended_at at is (omega (arith, past)))
@@ -75,13 +79,13 @@ module _ (file : List ℕ) (number : ℕ) (chain : ChainState) (answer : Result 
   pub fault_before_page : (at : Cursor) (fault : FileFault) → answer ≡ Err fault → number ≤ at.page
       → read_page file at ≡ Err (Fault number 0 (File fault))
   fault_before_page at fault is past =
-      let none = due_fault chain answer upcoming fault is in rw none.1 at (past_chain at none.0 past)
+      let none = upcoming_fault chain answer upcoming fault is in rw none.1 at (past_chain at none.0 past)
 
   -- a directory stands there
   module _ (directory : TiffDirectory) (is : answer ≡ Ok (Some directory)) where
     there : (slice_get its.offsets chain.yielded ≡ Some directory.offset)
         × (directory ≡ directory_of chain.tiff directory.offset)
-    there = due_some chain answer upcoming directory is
+    there = upcoming_some chain answer upcoming directory is
 
     pub same_file : directory.file ≡ chain.tiff.file
     same_file = ap (λ (d : TiffDirectory). d.file) there.1
@@ -99,9 +103,10 @@ module _ (file : List ℕ) (number : ℕ) (chain : ChainState) (answer : Result 
         (Fault number 0 (File refused))
     fields_refused refused bad r = rw bad at (found r)
 
-    pub page_due : (new : ChainState) (form : PageForm) → new ≡ after_answer chain answer → form_of directory ≡ Ok form
+    pub page_upcoming : (new : ChainState) (form : PageForm) → new ≡ after_answer chain answer → form_of directory
+        ≡ Ok form
         → IsFilePage number new directory form
-    page_due new form counted form_is = record {
+    page_upcoming new form counted form_is = record {
       here = λ r. rw form_is at (found r);
       after = let same : directory.file ≡ file = same_file ∙ before.file_is in
           rw same (goes_on file number chain new answer directory before upcoming is counted);

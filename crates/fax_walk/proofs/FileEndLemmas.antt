@@ -12,7 +12,7 @@ use Rattle.fax_walk.specs.code.RowPlaces.{cursor_at, strip_at}
 use Rattle.fax_walk.specs.views.Walk.{EndsBefore}
 use Rattle.fax_walk.specs.laws.Printed.{ItemsEndInTheFile}
 use Rattle.fax_walk.specs.laws.Tails.{TailsEndAfter}
-use Rattle.fax_walk.proofs.PageLawLemmas.{IsDue, end_due}
+use Rattle.fax_walk.proofs.PageLawLemmas.{IsUpcoming, end_upcoming}
 use Rattle.fax_walk.proofs.RowLawLemmas.{IsRead, after_read, its_page, read_at, inner_after}
 use Rattle.fax_walk.proofs.TailLawLemmas.{same_strip, split_at_number, strip_begin}
 
@@ -39,8 +39,9 @@ follows file at item to step = grind arith
 
 module _ (file : List ℕ) where
   -- on the next page
-  on_due : (p : ℕ) → IsDue file p → (end : End) → IsRow file (first_at p 0) (ends_as end) → EndsFrom (first_at p 0) end
-  on_due p upcoming end h = grind (arith, end_due)
+  on_upcoming : (p : ℕ) → IsUpcoming file p → (end : End) → IsRow file (first_at p 0) (ends_as end)
+      → EndsFrom (first_at p 0) end
+  on_upcoming p upcoming end h = grind (arith, end_upcoming)
 
   -- at a row of a page
   on_page : (at : RowPosition) (here : FilePage) → read_page file (cursor_at at) ≡ Ok here
@@ -53,7 +54,7 @@ module _ (file : List ℕ) where
   module _ (at : RowPosition) (item : RowItem) (to : RowPosition) (end : End) where
     after_item : IsRead file at item to → IsRow file to (ends_as end) → EndsFrom to end
     after_item read = after_read file (λ t. IsRow file t (ends_as end) → EndsFrom t end) at item to read
-        (λ last. on_due (item.page + 1) (inr (cursor_after item, read.here, page_there (item.row + 1), refl)) end)
+        (λ last. on_upcoming (item.page + 1) (inr (cursor_after item, read.here, page_there (item.row + 1), refl)) end)
         (λ within begins. on_page (first_at item.page (item.row + 1)) read.here (page_there (item.row + 1))
         (λ none. let begin = strip_begin read.here.form.rows_per_strip (item.row + 1) begins in omega (arith, begin))
         end)
@@ -72,7 +73,7 @@ module _ (file : List ℕ) where
       ends_there to items end (λ e stop. after_item at x to e (read_at file at x to step) stop) rest
 
   pub never_outside : (items : List RowItem) → AreItems file items Outside → ⊥
-  never_outside items are = ends_there (first_at 0 0) items Outside (on_due 0 (inl refl)) are refl
+  never_outside items are = ends_there (first_at 0 0) items Outside (on_upcoming 0 (inl refl)) are refl
 
 pub items_end_in_the_file : ItemsEndInTheFile
 items_end_in_the_file file items end are outside = grind (arith, never_outside)

@@ -67,10 +67,10 @@ module _ (form : PageForm) (p s i r : ℕ) (inner : StripPosition) (r_is : r ≡
   pub numbers : (strip_at form r ≡ s) × (row_in_strip form r ≡ i)
   numbers = in_strip form.rows_per_strip s i r (omega (arith, upcoming)) r_is
 
-  pub due_at : (i ≡ 0 → inner ≡ before form.width None)
+  pub upcoming_at : (i ≡ 0 → inner ≡ before form.width None)
       → (o : Option StripPosition) × (place_on form p r inner ≡ record { page = p; row = r; inner = o })
       × (before form.width o ≡ inner)
-  due_at first = elim (cases_lt 0 i) [
+  upcoming_at first = elim (cases_lt 0 i) [
     | inl some ↦ (Some inner, at_inner form p r inner row_below (omega (arith, some, numbers.1)), refl)
     | inr none ↦ (
       None,
@@ -92,19 +92,19 @@ module _ (page : PageState) (limits : IsPageForm page.form) (strip_is : IsStripO
   strip_rows = ap (λ (f : StripForm). f.rows) strip_is.form_is
 
   module _ (upcoming : page.strip.row < page.strip.form.rows) where
-    due_now : page.strip.row < (strip_form page.form page.number).rows
-    due_now = omega (arith, upcoming, strip_rows)
+    upcoming_now : page.strip.row < (strip_form page.form page.number).rows
+    upcoming_now = omega (arith, upcoming, strip_rows)
 
     pub is_below : row_of page < page.form.rows
-    is_below = row_below page.form page.page page.number page.strip.row (row_of page) before_row refl due_now
+    is_below = row_below page.form page.page page.number page.strip.row (row_of page) before_row refl upcoming_now
 
     pub numbered : (strip_at page.form (row_of page) ≡ page.number)
         × (row_in_strip page.form (row_of page) ≡ page.strip.row)
-    numbered = numbers page.form page.page page.number page.strip.row (row_of page) before_row refl due_now
+    numbered = numbers page.form page.page page.number page.strip.row (row_of page) before_row refl upcoming_now
 
     stands : (o : Option StripPosition) × (place_of page ≡ record { page = page.page; row = row_of page; inner = o })
         × (before page.form.width o ≡ before_row)
-    stands = due_at page.form page.page page.number page.strip.row (row_of page) before_row refl due_now
+    stands = upcoming_at page.form page.page page.number page.strip.row (row_of page) before_row refl upcoming_now
         (λ none. rw ((strip_is.first none).0, (strip_is.first none).1) refl)
 
     module _ (its : IsFilePage page.page page.chain page.directory page.form) where
@@ -321,10 +321,10 @@ module _ (upcoming : UpcomingPage) (first : ℕ) (its : IsFilePage upcoming.page
   }
 
 -- the next page is there
-pub due_there : (p : ℕ) (chain : ChainState) (directory : TiffDirectory) (form : PageForm)
+pub upcoming_there : (p : ℕ) (chain : ChainState) (directory : TiffDirectory) (form : PageForm)
     → IsFilePage p chain directory form
     → HasPage directory.file p
-due_there p chain directory form its = rw (its.here 0) tt
+upcoming_there p chain directory form its = rw (its.here 0) tt
 
 pub refused_after : (file : List ℕ) (upcoming : UpcomingPage) (p : ℕ) (result : Result PageState OpenFault)
     → upcoming.page ≡ p

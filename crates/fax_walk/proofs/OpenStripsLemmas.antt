@@ -61,8 +61,8 @@ module _ (writes : WritesRowByRow) (form : PageForm) (k : ℕ) (rows : List (Lis
   places : Places
   places = places_by page.writer put.in_strip
 
-  one_due : n < form.strips
-  one_due = grind arith
+  one_upcoming : n < form.strips
+  one_upcoming = grind arith
 
   -- a strip's writer that the next row can be put to
   abbrev pub IsReady : WriterState → Type 0
@@ -129,7 +129,7 @@ module _ (writes : WritesRowByRow) (form : PageForm) (k : ℕ) (rows : List (Lis
           some_k = put.some_k;
           count = omega (arith, put.count, count);
           within = omega (arith, count);
-          strips = omega (arith, strips_are, one_due);
+          strips = omega (arith, strips_are, one_upcoming);
           done = rw (
             strips_are,
             done_is,

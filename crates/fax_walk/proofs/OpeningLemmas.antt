@@ -2,7 +2,7 @@
 use Rattle.std.proofs.Common.{arith, ◌≡◌, ℕ, Option, Some, None, Result, Ok, Err, sym, ◌∙◌}
 use Rattle.std.specs.Prelude.{slice_get}
 use Rattle.fax_files.specs.declared.FileFault.{FileFault}
-use Rattle.fax_files.specs.views.Chain.{ChainState, answer_at, chain_of, due_answer}
+use Rattle.fax_files.specs.views.Chain.{ChainState, answer_at, chain_of, upcoming_answer}
 use Rattle.fax_files.specs.views.Tiff.{TiffFile, TiffDirectory, directory_of}
 
 -- a directory that is returned stands at the place that is asked for
@@ -24,19 +24,19 @@ fault_answered tiff place end met is = grind arith
 
 -- what a chain answers
 module _ (chain : ChainState) (answer : Result (Option TiffDirectory) FileFault) (upcoming : answer
-    ≡ due_answer chain) where
+    ≡ upcoming_answer chain) where
   abbrev place : Option ℕ
   place = slice_get (chain_of chain.tiff).offsets chain.yielded
 
   abbrev end : Option FileFault
   end = (chain_of chain.tiff).end
 
-  pub due_some : (directory : TiffDirectory) → answer ≡ Ok (Some directory)
+  pub upcoming_some : (directory : TiffDirectory) → answer ≡ Ok (Some directory)
       → (place ≡ Some directory.offset) × (directory ≡ directory_of chain.tiff directory.offset)
-  due_some directory is = answered chain.tiff place end directory (sym is ∙ upcoming)
+  upcoming_some directory is = answered chain.tiff place end directory (sym is ∙ upcoming)
 
-  pub due_none : answer ≡ Ok None → (place ≡ None) × (end ≡ None)
-  due_none is = none_answered chain.tiff place end (sym is ∙ upcoming)
+  pub upcoming_none : answer ≡ Ok None → (place ≡ None) × (end ≡ None)
+  upcoming_none is = none_answered chain.tiff place end (sym is ∙ upcoming)
 
-  pub due_fault : (met : FileFault) → answer ≡ Err met → (place ≡ None) × (end ≡ Some met)
-  due_fault met is = fault_answered chain.tiff place end met (sym is ∙ upcoming)
+  pub upcoming_fault : (met : FileFault) → answer ≡ Err met → (place ≡ None) × (end ≡ Some met)
+  upcoming_fault met is = fault_answered chain.tiff place end met (sym is ∙ upcoming)

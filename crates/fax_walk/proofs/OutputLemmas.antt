@@ -94,10 +94,10 @@ module _ (packs : PackingUndoesUnpacking) (at : Progress) (sheet : PageSize) (ta
       images_too_large at.options.target at.options ((at.pages ++ page ∷ []) ++ more) target long
 
 -- an image is started
-pub image_begun : (at : Progress) (sheet : PageSize) (old new : List ℕ) → HasPutImages old at
+pub image_started : (at : Progress) (sheet : PageSize) (old new : List ℕ) → HasPutImages old at
     → new ≡ old ++ head_bytes sheet.width sheet.rows
     → length new + sheet.rows * packed_len sheet.width ≤ max_file → HasImageRows new (no_rows at sheet)
-image_begun at sheet old new has new_is fits = grind (arith, append-nil)
+image_started at sheet old new has new_is fits = grind (arith, append-nil)
 
 -- a row is put after the others of its image
 pub image_row : PackingUndoesUnpacking → (part : Part) (row : List Colour) (old new : List ℕ) → HasImageRows old part
@@ -163,12 +163,12 @@ pages_grow old total k (page ∷ pages) =
     )
 
 -- a TIFF file of no page yet
-pub file_begun : (options : Options) (coding : Coding) (writer : Writing)
+pub file_started : (options : Options) (coding : Coding) (writer : Writing)
     → coding_of options.target ≡ Some coding
     → writer ≡ record { written = empty_file; total = most_pages; added = 0 }
     → HasPages coding writer (nothing_written options)
 unfolding with_pages
-file_begun options coding writer coding_is is = grind arith
+file_started options coding writer coding_is is = grind arith
 
 reached_by : (form : PageForm) (k n : ℕ) (rows : List (List Colour)) (writer : Option WriterState)
     → length rows ≡ form.rows

@@ -121,16 +121,16 @@ one_form file p =
     (λ here. only_it (goes_on (record { page = p; form = here.form }) (p + 1)))
 
 -- page p comes next: it is the first one, or the one after a page
-abbrev pub IsDue : List ℕ → ℕ → Type 0
-IsDue file p = (p ≡ 0) ⊎ ((at : Cursor) × (here : FilePage) × (read_page file at ≡ Ok here) × (p ≡ at.page + 1))
+abbrev pub IsUpcoming : List ℕ → ℕ → Type 0
+IsUpcoming file p = (p ≡ 0) ⊎ ((at : Cursor) × (here : FilePage) × (read_page file at ≡ Ok here) × (p ≡ at.page + 1))
 
 -- the end in the place of the next page: a proper one, or a fault there
-abbrev pub EndsDue : ℕ → End → Type 0
-EndsDue p end = (end ≡ EndOfPages) ⊎ ((cause : Cause) × (end ≡ Fault p 0 cause))
+abbrev pub EndsUpcoming : ℕ → End → Type 0
+EndsUpcoming p end = (end ≡ EndOfPages) ⊎ ((cause : Cause) × (end ≡ Fault p 0 cause))
 
-module _ (file : List ℕ) (p : ℕ) (upcoming : IsDue file p) (end : End) where
-  in_due : (head : Header) → header file ≡ Ok head → p ≤ length (read_chain head file).offsets
-  in_due head is_head = elim upcoming [
+module _ (file : List ℕ) (p : ℕ) (upcoming : IsUpcoming file p) (end : End) where
+  in_upcoming : (head : Header) → header file ≡ Ok head → p ≤ length (read_chain head file).offsets
+  in_upcoming head is_head = elim upcoming [
     | inl none ↦ omega (arith, none)
     | inr (at, here, page, next) ↦
         let found = in_chain file at here page in
@@ -142,11 +142,11 @@ module _ (file : List ℕ) (p : ℕ) (upcoming : IsDue file p) (end : End) where
 
   past : (pages : ℕ) → pages ≡ p → (fault : Option FileFault)
       → end ≡ chain_end pages fault (record { page = p; row = 0 })
-      → EndsDue p end
+      → EndsUpcoming p end
   past pages all fault e = grind arith
 
-  pub end_due : read_page file (record { page = p; row = 0 }) ≡ Err end → EndsDue p end
-  end_due there = elim (cases_end file (record { page = p; row = 0 }) end there) [
+  pub end_upcoming : read_page file (record { page = p; row = 0 }) ≡ Err end → EndsUpcoming p end
+  end_upcoming there = elim (cases_end file (record { page = p; row = 0 }) end there) [
     | inl (fault, bad, e) ↦ elim upcoming [
       | inl none ↦ inr (File fault, rw none e)
       | inr (at, here, page, next) ↦ let found = in_chain file at here page in absurd (cc (bad, found.is_head))
@@ -155,7 +155,7 @@ module _ (file : List ℕ) (p : ℕ) (upcoming : IsDue file p) (end : End) where
     | inr (inr after) ↦
         let chain = read_chain after.head file in
         let all = none_past chain.offsets p after.none in
-        past (length chain.offsets) (omega (arith, all, in_due after.head after.is_head)) chain.end after.end_is
+        past (length chain.offsets) (omega (arith, all, in_upcoming after.head after.is_head)) chain.end after.end_is
   ]
 
 -- the page that a cursor names in a file with this header

@@ -311,8 +311,8 @@ module _ (form : StripForm) (bytes : Bor (List ℕ)) (end : RowsEnd) (start pass
   many : length (map strip_row all.rows) ≡ count
   many = grind (arith, length-map)
 
-  pub uncounted_begun : IsGoneOver (Uncounted new bytes count)
-  uncounted_begun = rw again (record {
+  pub uncounted_at_start : IsGoneOver (Uncounted new bytes count)
+  uncounted_at_start = rw again (record {
     within = omega arith;
     counted = counted;
     passed = λ rows (own, end', are, rows_are). ([], refl, (end', (own, are, rows_are)));
@@ -330,9 +330,9 @@ module _ (form : StripForm) (bytes : Bor (List ℕ)) (end : RowsEnd) (start pass
   uncounted_started = grind (arith, again, own_left, many)
 
 -- before the first row of a page
-pub page_begun : (directory : TiffDirectory) (form : PageForm) (its : ShownState)
+pub page_started : (directory : TiffDirectory) (form : PageForm) (its : ShownState)
     → IsBeforeRows directory form its.rows → IsGoneOver (Page its)
-page_begun directory form its origin = record {
+page_started directory form its origin = record {
   within = omega (arith, origin.first);
   counted = tt;
   passed = λ rows is. ([], sym origin.first, rw (origin.directory_is, origin.form_is) (origin.all rows is));

@@ -23,7 +23,7 @@ use Rattle.std.proofs.Common.{Bool, true, false}
 use Rattle.fax_walk.proofs.SalvageLawLemmas.{pages_left}
 use Rattle.fax_files.specs.declared.FileFault.{FileFault}
 use Rattle.fax_files.specs.declared.PageForm.{PageForm}
-use Rattle.fax_files.specs.views.Chain.{ChainState, after_answer, due_answer}
+use Rattle.fax_files.specs.views.Chain.{ChainState, after_answer, upcoming_answer}
 use Rattle.fax_files.specs.views.Page.{IsPageForm}
 use Rattle.fax_files.specs.views.Tiff.{TiffDirectory, directory_of, form_of}
 use Rattle.fax_files.specs.Directory.{read_chain}
@@ -38,7 +38,7 @@ use Rattle.fax_walk.specs.code.SalvagePage.{SalvagePageState, EndsOnPage, GivesO
 use Rattle.fax_walk.specs.code.SalvagePage.{with_lost, with_waiting, row_after}
 use Rattle.fax_walk.proofs.EndingLemmas.{found, goes_on, proper_end_at}
 use Rattle.fax_walk.specs.code.SalvageFile.{IsLastPassed}
-use Rattle.fax_walk.proofs.OpeningLemmas.{due_fault, due_none, due_some}
+use Rattle.fax_walk.proofs.OpeningLemmas.{upcoming_fault, upcoming_none, upcoming_some}
 use Rattle.fax_walk.proofs.PageLawLemmas.{none_past}
 
 same_tiff : (chain new : ChainState) (answer : Result (Option TiffDirectory) FileFault) (directory : TiffDirectory)
@@ -49,20 +49,20 @@ same_tiff chain new answer directory is counted = grind arith
 pub entered_next : (chain new : ChainState) (answer : Result (Option TiffDirectory) FileFault)
     (directory : TiffDirectory) (form : PageForm) (its : SalvagePageState)
     → IsChainBefore chain.tiff.file chain.yielded chain
-    → answer ≡ due_answer chain → answer ≡ Ok (Some directory) → new ≡ after_answer chain answer
+    → answer ≡ upcoming_answer chain → answer ≡ Ok (Some directory) → new ≡ after_answer chain answer
     → form_of directory ≡ Ok form → IsPageForm form → IsPageStarted directory form chain.yielded its
     → IsNextPage chain (Entered its new)
 entered_next chain new answer directory form its before upcoming is counted form_is limits origin =
-    grind (arith, due_some, found, goes_on, same_tiff)
+    grind (arith, upcoming_some, found, goes_on, same_tiff)
 
 -- a page that is refused
 pub refused_next : (chain new : ChainState) (answer : Result (Option TiffDirectory) FileFault) (directory :
     TiffDirectory)
     (fault : FileFault) → IsChainBefore chain.tiff.file chain.yielded chain
-    → answer ≡ due_answer chain → answer ≡ Ok (Some directory) → new ≡ after_answer chain answer
+    → answer ≡ upcoming_answer chain → answer ≡ Ok (Some directory) → new ≡ after_answer chain answer
     → form_of directory ≡ Err fault → IsNextPage chain (Refused fault new)
 refused_next chain new answer directory fault before upcoming is counted refused =
-    grind (arith, due_some, goes_on, same_tiff)
+    grind (arith, upcoming_some, goes_on, same_tiff)
 
 -- no page more
 all_passed : (chain : ChainState) (offsets : List ℕ) → chain.yielded ≤ length offsets
@@ -70,14 +70,14 @@ all_passed : (chain : ChainState) (offsets : List ℕ) → chain.yielded ≤ len
 all_passed chain offsets within none = grind (arith, none_past)
 
 pub ends_next : (chain : ChainState) (answer : Result (Option TiffDirectory) FileFault)
-    → IsChainBefore chain.tiff.file chain.yielded chain → answer ≡ due_answer chain
+    → IsChainBefore chain.tiff.file chain.yielded chain → answer ≡ upcoming_answer chain
     → answer ≡ Ok None → IsNextPage chain Ends
-ends_next chain answer before upcoming is = grind (arith, all_passed, due_none, proper_end_at)
+ends_next chain answer before upcoming is = grind (arith, all_passed, upcoming_none, proper_end_at)
 
 pub broken_next : (chain : ChainState) (answer : Result (Option TiffDirectory) FileFault) (fault : FileFault)
-    → IsChainBefore chain.tiff.file chain.yielded chain → answer ≡ due_answer chain → answer ≡ Err fault
+    → IsChainBefore chain.tiff.file chain.yielded chain → answer ≡ upcoming_answer chain → answer ≡ Err fault
     → IsNextPage chain Broken
-broken_next chain answer fault before upcoming is = grind (arith, all_passed, due_fault)
+broken_next chain answer fault before upcoming is = grind (arith, all_passed, upcoming_fault)
 
 -- the offset that stands after others
 dropped_at : (offsets : List ℕ) (n q : ℕ) → slice_get offsets n ≡ Some q → drop n offsets ≡ q ∷ drop (n + 1) offsets
@@ -160,12 +160,12 @@ module _ (file : List ℕ) (laws : KnowsFile file) (chain : ChainState) (page : 
       new_before = rw (chained.file_is, ← new_given) at next.before
 
       -- the next page, and those after it
-      due_left : (fields : Result PageForm FileFault) → fields_of chain.tiff.head.endian chain.tiff.file q ≡ fields
+      upcoming_left : (fields : Result PageForm FileFault) → fields_of chain.tiff.head.endian chain.tiff.file q ≡ fields
           → (own later : List SalvagedItem) → IsPageLeftAs chain.tiff.head.endian file chain.yielded q fields own
           → ArePagesLeft new.tiff.head.endian file new.yielded
           (drop new.yielded (read_chain new.tiff.head file).offsets) later
           → Here (own ++ later)
-      due_left fields is own later remaining are =
+      upcoming_left fields is own later remaining are =
           let at = dropped_at offsets chain.yielded q (rw chained.file_is at next.offset) in
           let fields_are : fields_of chain.tiff.head.endian file q ≡ fields = rw chained.file_is at is in
           let own_is =
@@ -187,7 +187,7 @@ module _ (file : List ℕ) (laws : KnowsFile file) (chain : ChainState) (page : 
             → Here (page_refused chain.yielded fault ∷ items)
         refused_on items (own, later, none, are, items_are) =
             let same : items ≡ later = items_are ∙ ap (λ (l : List SalvagedItem). l ++ later) none in
-            rw same (due_left (Err fault) is (page_refused chain.yielded fault ∷ []) later refl are)
+            rw same (upcoming_left (Err fault) is (page_refused chain.yielded fault ∷ []) later refl are)
 
         pub refused_in : IsYielded file (Some new) None (yielded + 1)
         refused_in = record {
@@ -228,7 +228,7 @@ module _ (file : List ℕ) (laws : KnowsFile file) (chain : ChainState) (page : 
             let own_is : own ≡ page_items chain.yielded 0 (flat_map (λ rows. rows) all.0) =
             on_page.2 ∙ shown ∙ ap (page_items chain.yielded 0) all.2 in
             rw items_are
-            (due_left (Ok form) is own later (all.0, rw chained.file_is at all.1, own_is) are)
+            (upcoming_left (Ok form) is own later (all.0, rw chained.file_is at all.1, own_is) are)
 
         pub entered_in : IsYielded file (Some new) (Some its) yielded
         entered_in = grind (arith, new_before, few_whole, new_given, entered_on)

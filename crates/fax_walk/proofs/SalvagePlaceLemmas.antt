@@ -66,9 +66,9 @@ module _ (strips : PageStrips) (form : PageForm) (r s i place : ℕ) (bytes : Li
       (reader_is : reader ≡ salvage_from (strip_form form s) i (drop place (bits form.order bytes)) reader.reference)
     where
       -- before a row inside the strip
-      pub begun_at_in_page : form_of strips.directory ≡ Ok form → IsPageForm form → strips.count ≡ form.strips
+      pub started_at_in_page : form_of strips.directory ≡ Ok form → IsPageForm form → strips.count ≡ form.strips
           → length (bits form.order bytes) ≡ 8 * length bytes → IsInPage strips form s whole false reader
-      begun_at_in_page form_is limits counted len = record {
+      started_at_in_page form_is limits counted len = record {
         form_is = form_is;
         limits = limits;
         counted = counted;
@@ -110,14 +110,14 @@ module _ (strips : PageStrips) (form : PageForm) (r s i place : ℕ) (bytes : Li
       )
 
   -- there is no such place
-  pub not_begun_at : (fault : PlaceFault) → s ≡ r / form.rows_per_strip → i ≡ r - s * form.rows_per_strip
+  pub not_started_at : (fault : PlaceFault) → s ≡ r / form.rows_per_strip → i ≡ r - s * form.rows_per_strip
       → IsSalvageInside (strip_form form s) bytes i place before (Err fault)
       → IsNotStartedAt strips.directory form r place before fault
-  not_begun_at Outside s_is i_is none = λ s' i' there at inner.
+  not_started_at Outside s_is i_is none = λ s' i' there at inner.
       let same : s' ≡ s = sym (one_strip form r s' i' there) ∙ sym s_is in
       let its = rw same at inner in
       none (rw (remaining form) at its.within) at.reference its.reference
-  not_begun_at Memory s_is i_is (fits, row, is) = λ s' i' there.
+  not_started_at Memory s_is i_is (fits, row, is) = λ s' i' there.
       let same : s' ≡ s = sym (one_strip form r s' i' there) ∙ sym s_is in (
         record { bits = place; reference = row },
         record { bits_are = refl; within = rw (same, remaining form) fits; reference = is },
@@ -197,8 +197,8 @@ module _ (strips : PageStrips) (form : PageForm) (s : ℕ) (whole clean : Bool) 
     counted = grind (arith, inside, same, length-drop)
 
     -- so many bits are left
-    pub due_fits : length reader.upcoming ≤ 8 * length bytes
-    due_fits = omega (arith, counted)
+    pub upcoming_fits : length reader.upcoming ≤ 8 * length bytes
+    upcoming_fits = omega (arith, counted)
 
     -- the row stands inside the strip
     pub place_here : (lent : StripPositionRef) → lent.bits ≡ 8 * length bytes - length reader.upcoming
@@ -207,9 +207,10 @@ module _ (strips : PageStrips) (form : PageForm) (s : ℕ) (whole clean : Bool) 
     place_here lent bits_are reference_is width before upcoming = grind (arith, inside, counted, same, rows_of_strip)
 
 -- a row that a reader begins before has its place in its strip
-pub begun_fits : (directory : TiffDirectory) (form : PageForm) (r bits : ℕ) (before : ReferenceRow) (state : RowsState)
+pub started_fits : (directory : TiffDirectory) (form : PageForm) (r bits : ℕ) (before : ReferenceRow) (state :
+    RowsState)
     → StartsAt directory form r bits before state → IsNotStartedAt directory form r bits before Memory
-begun_fits directory form r bits before state (same, also, origin) s i there =
+started_fits directory form r bits before state (same, also, origin) s i there =
     let one : s ≡ origin.s = sym (one_strip form r s i there) ∙ one_strip form r origin.s origin.i origin.there in
     (origin.at, rw one origin.inner)
 

@@ -20,7 +20,7 @@ use Rattle.fax_files.specs.views.Page.{IsPageForm}
 use Rattle.fax_files.specs.views.Tiff.{PageStrips, TiffDirectory, bytes_of, form_of, inside_of}
 use Rattle.fax_walk.specs.code.SalvageItems.{IsInPage, StandsInStrip, seen_from}
 use Rattle.fax_walk.specs.views.RowsFrom.{EndsWithPage}
-use Rattle.fax_page.specs.laws.Salvage.{DueRowsStandInStrips, FindsWholeStrips}
+use Rattle.fax_page.specs.laws.Salvage.{UpcomingRowsStandInStrips, FindsWholeStrips}
 use Rattle.std.proofs.Common.{subst}
 use Rattle.fax_walk.specs.Salvaged.{PageRow, on_page, IsStripLeft, AreStripsLeft}
 use Rattle.fax_walk.specs.code.Opening.{page_with}
@@ -54,12 +54,12 @@ step_on_page form whole old new salvaged step =
     step_passes (on_page form whole) whole old new (lost_named form whole) (unended_named form whole) salvaged step
 
 -- the rows of a strip, where it is started
-strip_begun : (directory : TiffDirectory) (form : PageForm) (s : ℕ) (bytes : List ℕ) (whole : Bool)
+strip_started : (directory : TiffDirectory) (form : PageForm) (s : ℕ) (bytes : List ℕ) (whole : Bool)
     (own : List SalvagedRow)
     → AreBytesLeft directory s bytes whole
     → AreSalvaged (strip_form form s) 0 None (white_row form.width) (bits form.order bytes) own
     → IsStripLeft directory.file (page_with directory form) s (map (on_page form whole) own)
-strip_begun directory form s bytes whole own remaining is = rw (remaining form) (own, is, refl)
+strip_started directory form s bytes whole own remaining is = rw (remaining form) (own, is, refl)
 
 -- the bytes of a strip that lies wholly in the file
 whole_bytes : (directory : TiffDirectory) (form : PageForm) (s : ℕ) (bytes : List ℕ)
@@ -76,10 +76,10 @@ whole_bytes directory form s bytes remaining = by_bytes (bytes_of directory s) (
     by_bytes o same = grind arith
 
 -- a strip of which no row is read yet
-pub clean_begun : (directory : TiffDirectory) (form : PageForm) (s : ℕ) (bytes : List ℕ) (reader : SalvageState)
+pub clean_started : (directory : TiffDirectory) (form : PageForm) (s : ℕ) (bytes : List ℕ) (reader : SalvageState)
     → AreBytesLeft directory s bytes true
     → reader ≡ salvage_beginning (strip_form form s) (bits form.order bytes) → IsCleanSoFar directory form s reader
-clean_begun directory form s bytes reader remaining begins = record {
+clean_started directory form s bytes reader remaining begins = record {
   bytes = bytes;
   bytes_are = whole_bytes directory form s bytes remaining;
   rows = [];
@@ -103,12 +103,11 @@ pub whole_strip : FindsWholeStrips → (directory : TiffDirectory) (form : PageF
 whole_strip law directory form s reader clean all =
     let is = subst (IsSalvagedStrip (strip_form form s) (bits form.order clean.bytes))
     (append-nil (map (λ row. found row) clean.rows)) (clean.followed [] all) in
-    let lines = law.whole (strip_form form s) 0 (white_row form.width) (bits form.order clean.bytes) clean.rows is in
     record {
       bytes = clean.bytes;
       bytes_are = clean.bytes_are;
       rows = clean.rows;
-      is = record { remaining = lines.0; lines = lines.1 };
+      is = law.strip (strip_form form s) (bits form.order clean.bytes) clean.rows is;
     }
 
 -- one strip more is whole
@@ -139,7 +138,7 @@ before_rows directory form bytes whole reader limits remaining begins = record {
       let own = rw begins at is.2 in
       let some : 0 < form.strips = grind (arith, limits) in (
         map (on_page form whole) is.0 ∷ is.1,
-        (some, strip_begun directory form 0 bytes whole is.0 remaining own, is.3),
+        (some, strip_started directory form 0 bytes whole is.0 remaining own, is.3),
         is.4,
       );
 }
@@ -182,7 +181,7 @@ module _ (old : RowsState) (limits : IsPageForm old.form) (inside : old.strip < 
               [],
               map (on_page old.form all) is.0 ∷ is.1,
               last,
-              (next, strip_begun old.directory old.form (old.strip + 1) bytes all is.0 remaining own, is.3),
+              (next, strip_started old.directory old.form (old.strip + 1) bytes all is.0 remaining own, is.3),
               is.4,
             );
         upcoming = λ none. absurd (omega (arith, none, row_zero, rows_some, below, limits.some_rows_per_strip));
@@ -224,8 +223,8 @@ module _ (old : RowsState) (limits : IsPageForm old.form) (inside : old.strip < 
         → IsPart before None (record old { reader = reader })
     no_part law whole_before clean_now reader (all, same) =
         let upcoming = enters.upcoming all in
-        let due_rows : old.strip * n + old.reader.form.rows ≡ old.form.rows = omega (arith, all, upcoming) in
-        let last = last_strip due_rows in
+        let upcoming_rows : old.strip * n + old.reader.form.rows ≡ old.form.rows = omega (arith, all, upcoming) in
+        let last = last_strip upcoming_rows in
         rw same (
           record { stays = enters.stays; followed = enters.same_rows },
           enters.same_row,
@@ -282,12 +281,12 @@ module _ (old : RowsState) (limits : IsPageForm old.form) (inside : old.strip < 
         step)
 
 -- a strip that is started stands in its bits
-stands_begun : (directory : TiffDirectory) (form : PageForm) (s : ℕ) (bytes : List ℕ) (whole : Bool)
+stands_started : (directory : TiffDirectory) (form : PageForm) (s : ℕ) (bytes : List ℕ) (whole : Bool)
     (reader : SalvageState)
     → AreBytesLeft directory s bytes whole
     → reader ≡ salvage_beginning (strip_form form s) (bits form.order bytes)
     → StandsInStrip directory form s whole reader
-stands_begun directory form s bytes whole reader remaining begins = record {
+stands_started directory form s bytes whole reader remaining begins = record {
   bytes = bytes;
   remaining = remaining;
   upcoming = λ _. (0, omega arith, sym (ap (λ (s : SalvageState). s.upcoming) begins));
@@ -295,15 +294,15 @@ stands_begun directory form s bytes whole reader remaining begins = record {
 
 module _ (strips : PageStrips) (form : PageForm) where
   -- before the first row of a page
-  pub begun_in_page : (bytes : List ℕ) (whole : Bool) (reader : SalvageState) → form_of strips.directory ≡ Ok form
+  pub started_in_page : (bytes : List ℕ) (whole : Bool) (reader : SalvageState) → form_of strips.directory ≡ Ok form
       → IsPageForm form → strips.count ≡ form.strips → AreBytesLeft strips.directory 0 bytes whole
       → reader ≡ salvage_beginning (strip_form form 0) (bits form.order bytes)
       → IsInPage strips form 0 whole whole reader
-  begun_in_page bytes whole reader form_is limits counted remaining begins = grind (
+  started_in_page bytes whole reader form_is limits counted remaining begins = grind (
     arith,
-    stands_begun,
+    stands_started,
     whole,
-    clean_begun,
+    clean_started,
   )
 
   module _ (strip : ℕ) (whole clean : Bool) (reader : SalvageState) (old : IsInPage strips form strip whole clean
@@ -324,16 +323,16 @@ module _ (strips : PageStrips) (form : PageForm) where
             inside = omega (arith, old.inside, more);
             reader_form = ap (λ (s : SalvageState). s.form) begins;
             within = let none : new.row ≡ 0 = ap (λ (s : SalvageState). s.row) begins in omega (arith, none);
-            stands = stands_begun strips.directory form (strip + 1) bytes all new remaining begins;
+            stands = stands_started strips.directory form (strip + 1) bytes all new remaining begins;
             whole_before = λ is. whole_after strips.directory form strip (old.whole_before (split is).0)
                 (whole_strip law strips.directory form strip reader (old.clean_now (split is).0)
                 (omega (arith, gone, rows_are, old.within)));
-            clean_now = λ is. clean_begun strips.directory form (strip + 1) bytes new (rw (split is).1 at remaining)
+            clean_now = λ is. clean_started strips.directory form (strip + 1) bytes new (rw (split is).1 at remaining)
                 begins;
           }
 
       -- after a row, or more
-      pub read_in_page : DueRowsStandInStrips → (salvaged : Salvaged) (now : Bool) (new : SalvageState)
+      pub read_in_page : UpcomingRowsStandInStrips → (salvaged : Salvaged) (now : Bool) (new : SalvageState)
           → IsSalvageStep reader (Some salvaged) new
           → (now ≡ true → (clean ≡ true) × (is_found salvaged ≡ true)) → IsInPage strips form strip whole now new
       read_in_page law salvaged now new step split =

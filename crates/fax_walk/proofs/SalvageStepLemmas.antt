@@ -125,6 +125,6 @@ module _ (shown : SalvagedRow → PageRow) (whole : Bool) (old new : SalvageStat
   step_passes (in_strip.Lost fault count) (upcoming, is_lost, after) =
       lost_passes fault count upcoming (lost fault) after (lost_is fault)
       (λ own is. (upcoming, is_lost, (after.0, after.1, is)))
-  step_passes (in_strip.Unterminated count) (row, rest, read, eol_due, below, after) =
-      lost_passes MissingEol count (omega (arith, eol_due.1)) (unended row) after (unended_is row)
-      (λ own is. (rest, read, eol_due, below, (after.0, after.1, is)))
+  step_passes (in_strip.Unterminated count) (row, rest, read, eol_upcoming, below, after) =
+      lost_passes MissingEol count (omega (arith, eol_upcoming.1)) (unended row) after (unended_is row)
+      (λ own is. (rest, read, eol_upcoming, below, (after.0, after.1, is)))

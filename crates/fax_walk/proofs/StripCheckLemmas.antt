@@ -1,8 +1,7 @@
 -- The strips of a page that is checked.
-use Rattle.std.proofs.Common.{◌≡◌, ℕ, ◌+◌, ◌*◌, ◌<◌, List, [], ◌∷◌, ◌++◌, length, min, Some, None, Ok, refl, sym, ◌∙◌}
-use Rattle.std.proofs.Common.{arith, append_assoc}
-use Rattle.std.proofs.Common.{append-nil}
-use Rattle.std.specs.Prelude.{Option}
+use Rattle.std.proofs.Common.{◌≡◌, ℕ, ◌+◌, ◌*◌, ◌<◌, List, [], ◌∷◌, ◌++◌, length, min, Some, None, Ok, Err, refl, sym}
+use Rattle.std.proofs.Common.{◌∙◌, ap, arith, append_assoc, append-nil, Bool}
+use Rattle.std.specs.Prelude.{Option, Result, ◌==◌, if◌then◌else◌}
 use Rattle.fax_bits.specs.declared.Colour.{Colour}
 use Rattle.fax_bits.specs.Bits.{bits}
 use Rattle.fax_bits.specs.laws.Codes.{AreBitsByIndex}
@@ -10,8 +9,10 @@ use Rattle.fax_page.specs.declared.StripFault.{StripFault}
 use Rattle.fax_page.specs.declared.notes.NotesFault.{NotesFault}
 use Rattle.fax_page.specs.declared.notes.NotesFault.TheVariants.{Memory, Strip as RowOfStrip}
 use Rattle.fax_page.specs.declared.notes.StripNotes.{StripNotes}
-use Rattle.fax_page.specs.views.Strip.{IsStrip, IsNotesFault}
-use Rattle.fax_page.specs.Strip.{IsNotedAs}
+use Rattle.fax_page.specs.views.Strip.{IsNotesFault}
+use Rattle.fax_page.specs.laws.Lines.{IsStrip}
+use Rattle.fax_page.specs.declared.StripForm.{StripForm}
+use Rattle.fax_page.specs.Strip.{StripRead, noted, notes_after, read_strip}
 use Rattle.fax_files.specs.declared.Cause.{Cause}
 use Rattle.fax_files.specs.declared.Cause.TheVariants.{File, Strip}
 use Rattle.fax_files.specs.declared.FileFault.TheVariants.{StripOutside}
@@ -25,9 +26,9 @@ use Rattle.fax_walk.specs.declared.checking.PageRead.{PageRead}
 use Rattle.fax_walk.specs.declared.end.End.{End}
 use Rattle.fax_walk.specs.declared.end.End.TheVariants.{Fault}
 use Rattle.fax_walk.specs.laws.InOrder.{LeadTo}
-use Rattle.fax_walk.specs.Pages.{NextItem, ends_as}
+use Rattle.fax_walk.specs.Pages.{NextItem, ends_as, goes_on}
 use Rattle.fax_walk.specs.Items.{RowItem, RowPosition, first_at, IsRow}
-use Rattle.fax_walk.specs.Report.{notes_on_strip, IsStripNoted, IsNoted}
+use Rattle.fax_walk.specs.Report.{notes_on_strip, noted_strip, IsNoted}
 use Rattle.fax_walk.specs.code.Opening.{IsPageOf}
 use Rattle.fax_walk.specs.code.Check.{before_strip, CheckPlace, HasChecked, IsDirectoryOfPage}
 use Rattle.fax_walk.specs.code.Check.{AreStripsChecked, IsRestChecked, IsRowInside, IsReadTo}
@@ -50,6 +51,43 @@ pub none_before : (directory : TiffDirectory) (form : PageForm) (p : ℕ) (notes
     → AreStripsChecked directory form p 0 notes notes
 none_before directory form p notes = grind (arith, append-nil, nothing_checked)
 
+-- a strip with notes has all its rows, and one with none has a fault after so many
+abbrev notes_or_fault : StripForm → List Bool → StripRead → Option StripFault → Result StripNotes (ℕ × StripFault)
+notes_or_fault form b strip end =
+    elim end [
+      | None ↦ Ok (notes_after form b strip.rows strip.remaining)
+      | Some fault ↦ Err (length strip.rows, fault)
+    ]
+
+end_of : (form : StripForm) (b : List Bool) (strip : StripRead) (found : StripNotes)
+    → notes_or_fault form b strip strip.end ≡ Ok found → strip.end ≡ None
+end_of form b strip found is = by strip.end is
+  where
+    by : (end : Option StripFault) → notes_or_fault form b strip end ≡ Ok found → end ≡ None
+    by None is = refl
+    by (Some fault) is = absurd (cc is)
+
+fault_of : (form : StripForm) (b : List Bool) (strip : StripRead) (row : ℕ) (fault : StripFault)
+    → notes_or_fault form b strip strip.end ≡ Err (row, fault)
+    → (strip.end ≡ Some fault) × (length strip.rows ≡ row)
+fault_of form b strip row fault is = by strip.end is
+  where
+    by : (end : Option StripFault) → notes_or_fault form b strip end ≡ Err (row, fault)
+        → (end ≡ Some fault) × (length strip.rows ≡ row)
+    by None is = absurd (cc is)
+    by (Some other) is =
+        let same : (length strip.rows, other) ≡ (row, fault) = cc is in
+        (ap (λ (found : ℕ × StripFault). Some found.1) same, ap (λ (found : ℕ × StripFault). found.0) same)
+
+-- what is noted of a strip, by what is found in it
+abbrev noted_by : PageForm → ℕ → ℕ → Result StripNotes (ℕ × StripFault) → NextItem (List Note) (ℕ × Option ℕ)
+noted_by form p s found =
+    elim found [
+      | Ok notes ↦ goes_on (notes_on_strip p s notes)
+          (if s + 1 == form.strips then (p + 1, None) else (p, Some (s + 1)))
+      | Err (rows, fault) ↦ ends_as (Fault p (s * form.rows_per_strip + rows) (Strip fault))
+    ]
+
 module _ (directory : TiffDirectory) (form : PageForm) (p : ℕ) (on : IsPageToCheck directory form p) where
   abbrev file : List ℕ
   file = directory.file
@@ -71,19 +109,25 @@ module _ (directory : TiffDirectory) (form : PageForm) (p : ℕ) (on : IsPageToC
   at_strip s upcoming = grind (arith, whole)
 
   -- what is found on a strip
-  noted_on : (s : ℕ) (answer : NextItem (List Note) (ℕ × Option ℕ))
-      → IsStripNoted form p s (bytes_of directory s) answer → IsNoted file ((p, Some s)) answer
-  noted_on s answer is = rw (page 0) is
+  noted_in : (s : ℕ) (answer : NextItem (List Note) (ℕ × Option ℕ))
+      → answer ≡ noted_strip form p s (bytes_of directory s) → IsNoted file ((p, Some s)) answer
+  noted_in s answer is = rw (page 0) is
+
+  noted_of : (s : ℕ) (bytes : List ℕ) (found : Result StripNotes (ℕ × StripFault)) → bytes_of directory s ≡ Some bytes
+      → noted (strip_form form s) (bits form.order bytes) ≡ found
+      → noted_strip form p s (bytes_of directory s) ≡ noted_by form p s found
+  noted_of s bytes found there is = ap (noted_strip form p s) there ∙ ap (noted_by form p s) is
 
   -- one more strip is whole
-  pub strip_after : (s : ℕ) (old middle new : List Note) (bytes : List ℕ) (rows : List (List Colour))
-      (found : StripNotes)
+  pub strip_after : (s : ℕ) (old middle new : List Note) (bytes : List ℕ) (found : StripNotes)
       → s < form.strips → Checks s old middle → bytes_of directory s ≡ Some bytes
-      → IsNotedAs (strip_form form s) (bits form.order bytes) rows found → new ≡ middle ++ notes_on_strip p s found
+      → noted (strip_form form s) (bits form.order bytes) ≡ Ok found → new ≡ middle ++ notes_on_strip p s found
       → Checks (s + 1) old new
-  strip_after s old middle new bytes rows found upcoming so_far there is new_is =
+  strip_after s old middle new bytes found upcoming so_far there is new_is =
+      let read_of_bits = read_strip (strip_form form s) (bits form.order bytes) in
+      let rows = read_of_bits.rows in
       let strip : IsStrip (strip_form form s) (bits form.order bytes) rows None =
-      record { remaining = is.remaining; lines = is.lines } in
+      (refl, end_of (strip_form form s) (bits form.order bytes) read_of_bits found is) in
       let below = whole.needed s upcoming in
       let count = strip_count (strip_form form s) (bits form.order bytes) rows None strip in
       let total : min (s * n) form.rows + length rows ≡ min ((s + 1) * n) form.rows = omega (arith, count, below) in
@@ -96,7 +140,7 @@ module _ (directory : TiffDirectory) (form : PageForm) (p : ℕ) (on : IsPageToC
       (length rows) =
       rw (at_strip s upcoming) (record {
         found = notes_on_strip p s found ∷ [];
-        lead = ((before_strip form p (s + 1)).next, noted_on s _ (rw there (rows, found, is, refl, refl)), refl);
+        lead = ((before_strip form p (s + 1)).next, noted_in s _ (sym (noted_of s bytes (Ok found) there is)), refl);
         notes_are = sym (append-nil (notes_on_strip p s found));
         items = read.items;
         lead_rows = rw to at read.lead;
@@ -124,10 +168,11 @@ module _ (directory : TiffDirectory) (form : PageForm) (p : ℕ) (on : IsPageToC
   fault_after : (s rows : ℕ) (cause : Cause) (old new : List Note) → s < form.strips → s * n + rows < form.rows
       → Checks s old new → (row : RowPosition) (items : List RowItem)
       → LeadTo (IsRow file) (first_at p (s * n)) items row
-      → rows ≡ length items → IsStripNoted form p s (bytes_of directory s) (ends_as (Fault p (s * n + rows) cause))
+      → rows ≡ length items
+      → ends_as (Fault p (s * n + rows) cause) ≡ noted_strip form p s (bytes_of directory s)
       → IsRow file row (ends_as (Fault p (s * n + rows) cause))
       → Rest old new (record { rows = s * n + rows; fault = Some cause })
-  fault_after s rows cause old new upcoming inside so_far row items lead count noted stop =
+  fault_after s rows cause old new upcoming inside so_far row items lead count is_noted stop =
       let total : min (s * n) form.rows + rows ≡ s * n + rows = omega (arith, inside) in
       let to : CheckPlace = record { next = (p, Some s); row = row } in
       let strip : HasChecked file (before_strip form p s) to [] rows =
@@ -148,7 +193,7 @@ module _ (directory : TiffDirectory) (form : PageForm) (p : ℕ) (on : IsPageToC
         is = rw (append-nil so_far.noted, total) at
             (checked_on file (before_strip form p 0) (before_strip form p s) to so_far.noted [] (min (s * n) form.rows)
             rows so_far.is strip);
-        after = (noted_on s _ noted, stop);
+        after = (noted_in s _ is_noted, stop);
       }
 
   -- a strip does not lie in the file
@@ -183,14 +228,20 @@ module _ (directory : TiffDirectory) (form : PageForm) (p : ℕ) (on : IsPageToC
   pub row_inside : (s : ℕ) (b : List ℕ) (fault : NotesFault) → s < form.strips
       → IsNotesFault (strip_form form s) (bits form.order b) fault → IsRowInside (s * n) fault
   row_inside s b Memory upcoming refused = tt
-  row_inside s b (RowOfStrip row fault) upcoming (rows, row_is, strip) =
-      omega (arith, row_is, on.limits.rows, inside_page s b rows fault upcoming strip)
+  row_inside s b (RowOfStrip row fault) upcoming is =
+      let strip = read_strip (strip_form form s) (bits form.order b) in
+      let stopped = fault_of (strip_form form s) (bits form.order b) strip row fault is in
+      omega (arith, stopped.1, on.limits.rows, inside_page s b strip.rows fault upcoming (refl, stopped.0))
 
   pub strip_fault : (s : ℕ) (old new : List Note) (b : List ℕ) (fault : NotesFault) (read : PageRead)
       → s < form.strips → Checks s old new → bytes_of directory s ≡ Some b
       → IsNotesFault (strip_form form s) (bits form.order b) fault → IsReadTo (s * n) fault read → Rest old new read
   strip_fault s old new b Memory read upcoming so_far there refused none = absurd none
-  strip_fault s old new b (RowOfStrip row fault) read upcoming so_far there (rows, row_is, strip) read_is =
+  strip_fault s old new b (RowOfStrip row fault) read upcoming so_far there is read_is =
+      let read_of_bits = read_strip (strip_form form s) (bits form.order b) in
+      let rows = read_of_bits.rows in
+      let (end_is, row_is) = fault_of (strip_form form s) (bits form.order b) read_of_bits row fault is in
+      let strip : IsStrip (strip_form form s) (bits form.order b) rows (Some fault) = (refl, end_is) in
       let rows_read =
       strip_rows on.by_place on.lines_read file directory.endian directory.offset form p page whole s
       (whole.needed s upcoming) b there rows
@@ -201,4 +252,5 @@ module _ (directory : TiffDirectory) (form : PageForm) (p : ℕ) (on : IsPageToC
       rows_read.items
       rows_read.lead (sym (walked_length file p (first_at p (s * n)) (s * n) (shown form rows) _ rows_read
       ∙ shown_length form rows))
-      (rw there (rows, fault, strip.remaining, strip.lines, refl)) rows_read.there)
+      (ap (λ k. ends_as (Fault p (s * n + k) (Strip fault))) row_is
+      ∙ sym (noted_of s b (Err (row, fault)) there is)) rows_read.there)

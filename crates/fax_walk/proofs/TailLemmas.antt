@@ -40,8 +40,8 @@ same_place from at k n e = grind arith
 
 -- the place where a walk from a cursor begins: the first row of the cursor's strip, or of the page
 -- after
-pub begun_cases : (file : List ℕ) (at : Cursor) (here : FilePage) (from : RowPosition) (k : ℕ)
+pub started_cases : (file : List ℕ) (at : Cursor) (here : FilePage) (from : RowPosition) (k : ℕ)
     → StartsOnPage file (AtCursor at) here (Ok (from, k))
     → ((at.row < here.form.rows) × (from ≡ first_at at.page (strip_at here.form at.row * here.form.rows_per_strip)))
     ⊎ (from ≡ first_at (at.page + 1) 0)
-begun_cases file at here from k is = grind (arith, nat_tests)
+started_cases file at here from k is = grind (arith, nat_tests)

@@ -272,20 +272,20 @@ module _ (file : List ℕ) (origin : WalkStart) where
   abbrev starts : RowPosition → ℕ → Result (RowPosition × ℕ) End
   starts first n = Ok (first, n)
 
-  begun_past : (at : Cursor) (here : FilePage) (first : RowPosition) (n : ℕ) → here.form.rows ≤ at.row
+  started_past : (at : Cursor) (here : FilePage) (first : RowPosition) (n : ℕ) → here.form.rows ≤ at.row
       → StartsOnPage file (AtCursor at) here (starts first n) → (first ≡ first_at (at.page + 1) 0) × (n ≡ 0)
-  begun_past at here first n past begins = grind arith
+  started_past at here first n past begins = grind arith
 
-  begun_last : (at : Cursor) (here : FilePage) (first : RowPosition) (n : ℕ) → here.form.rows ≤ at.row
+  started_last : (at : Cursor) (here : FilePage) (first : RowPosition) (n : ℕ) → here.form.rows ≤ at.row
       → StartsOnPage file (AtCursor at) here (starts first n) → at.row ≡ here.form.rows
-  begun_last at here first n past begins = grind arith
+  started_last at here first n past begins = grind arith
 
   -- a page is read whole, and none of its rows was returned: the walk began on it, or before it
   enters_first : (from : WalkStart) (page n : ℕ) (first : RowPosition) (found : Result FilePage End)
       → read_page file (start_cursor from) ≡ found
       → MatchResult found (λ here. StartsOnPage file from here (starts first n)) (λ none. starts first n ≡ Err none)
       → (n ≡ 0 → first_at (page + 1) 0 ≡ first) → HasPage file (page + 1) → EntersFirst file from
-  enters_first from page n first found is begins same there = grind (arith, cases_lt, begun_past, begun_last)
+  enters_first from page n first found is begins same there = grind (arith, cases_lt, started_past, started_last)
 
   last_row : (page : ℕ) (item : RowItem) → item.row < item.form.rows → first_at (page + 1) 0 ≡ place_after item
       → (item.row + 1 ≡ item.form.rows) × (page + 1 ≡ item.page + 1)

@@ -71,8 +71,6 @@ pub fn answers_are_one()
     ensures conversions { AnswerLaws.BytesAreConvertedInOneWay }
     ensures reports { AnswerLaws.FilesHaveOneReport }
 {
-    fax_page::laws::strips_are_read_in_one_way();
-    fax_page::laws::strips_are_noted_in_one_way();
     fax_files::laws::images_are_read_in_one_way();
     form_tails_are_one();
     tails_go_on();

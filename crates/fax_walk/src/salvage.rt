@@ -212,9 +212,9 @@ impl<'a> Salvage<'a> {
         }
     }
 
-    /// Whether it is seen that nothing of the file is lost, once all was returned: then its rows
-    /// end properly. Before that, whether it is seen so of the pages that were left. `false` says
-    /// nothing: what is lost was returned.
+    /// After the last item: `true` only where nothing of the file is lost, and its rows end
+    /// properly. Before that, the same of the pages passed so far. `false` is no claim that
+    /// something is lost: a lost row is an item of its own.
     pub fn is_whole(&self) -> bool
         ensures { result ≡ self.now.whole }
     {

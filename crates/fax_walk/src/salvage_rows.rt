@@ -195,7 +195,7 @@ impl<'a> SalvageRows<'a> {
         ensures { Spec.IsPart self.old result self.new }
     {
         fax_page::laws::whole_strips_are_found();
-        fax_page::laws::due_rows_stand_in_strips();
+        fax_page::laws::upcoming_rows_stand_in_strips();
         self.enter_strip();
         let Some(salvaged) = self.reader.next_salvaged() else {
             return None;

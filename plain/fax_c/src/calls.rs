@@ -8,6 +8,7 @@ pub use crate::file_report::FaxNote;
 pub use crate::file_report::FaxReport;
 pub use crate::forms::FaxForm;
 pub use crate::places::FaxPlace;
+pub use crate::received::FaxReceived;
 pub use crate::rows::FaxRow;
 pub use crate::salvaged_raster::FaxLost;
 pub use crate::strip_form::FaxStrip;
@@ -115,6 +116,11 @@ pub fn faxpages_page(
 /// As the header says.
 pub fn faxpages_end_pages(file: &mut [u8], written: &mut FaxWritten) -> u32 {
     crate::page_total::faxpages_end_pages(file, written)
+}
+
+/// As the header says.
+pub fn faxpages_received(file: &[u8], page: u32, received: &mut FaxReceived) -> u32 {
+    crate::received::faxpages_received(file, page, received)
 }
 
 /// As the header says.

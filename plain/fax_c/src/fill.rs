@@ -48,7 +48,7 @@ impl Stop {
 
     /// The number that a call returns.
     // ensures { result ≡ status_of self }
-    fn status(self) -> u32 {
+    pub(crate) fn status(self) -> u32 {
         match self {
             Stop::Done => status::DONE,
             Stop::Ended(End::EndOfPages) => status::END,

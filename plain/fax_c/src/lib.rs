@@ -22,6 +22,7 @@ mod page_raster;
 mod page_total;
 mod places;
 mod raster;
+mod received;
 mod row_runs;
 mod rows;
 mod salvage_from;

@@ -56,7 +56,7 @@ impl FaxPlace {
 /// runs.
 // requires { place.now.runs ≤ length runs.now }
 // ensures { MatchOption result (0 < place.now.runs)
-//     (λ origin. origin ≡ Spec.place_begun place.now runs.now) }
+//     (λ origin. origin ≡ Spec.place_started place.now runs.now) }
 pub(crate) fn started_at(alloc: Global, place: &FaxPlace, runs: &[u32]) -> Option<WalkStart> {
     let at = place.cursor();
     if place.runs == 0 {

@@ -15,8 +15,8 @@ struct Cycle {
     len: u64,
 }
 
-/// What is known of the page at which a chain turns back: a search is at an offset, or it has
-/// ended.
+/// The search for the page at which a chain turns back: running, with the offset of the directory
+/// that it looks at next, or ended, with that page's number, or `None` where the chain has an end.
 #[derive(Clone, Copy)]
 enum Search {
     Running(u32),
@@ -41,7 +41,8 @@ fn next_after(tiff: &Tiff, offset: u32) -> u32 {
     next_of(tiff, offset).unwrap_or(0)
 }
 
-/// Computes nothing: the offsets of a chain differ, and each is a number of four bytes, not 0.
+/// A lemma, which computes nothing: a chain has few pages, since its offsets differ, and each is a
+/// number of four bytes, not 0.
 // requires { file.now ≡ tiff.now.file }
 // ensures { Spec.HasFewPages tiff.now }
 fn lemma_few_pages(tiff: &Tiff, _file: &[u8]) {
@@ -188,7 +189,7 @@ impl<'a> Chain<'a> {
     ///
     /// `DirectoryLoop` where the next offset was returned before, `DirectoryOutside` where no whole
     /// directory stands there.
-    // ensures answer { result ≡ due_answer self.now }
+    // ensures answer { result ≡ upcoming_answer self.now }
     // ensures file { IfOk result (λ found. IfSome found (IsDirectoryOf self.now.tiff)) }
     pub fn peek(&self) -> Result<Option<Directory<'a>>, FileFault> {
         if self.next_at == 0 {
@@ -205,7 +206,7 @@ impl<'a> Chain<'a> {
     /// # Errors
     ///
     /// As `peek`, from then on.
-    // ensures answer { result ≡ due_answer self.old }
+    // ensures answer { result ≡ upcoming_answer self.old }
     // ensures file { IfOk result (λ found. IfSome found (IsDirectoryOf self.old.tiff)) }
     // ensures counted { self.new ≡ after_answer self.old result }
     pub fn next(&mut self) -> Result<Option<Directory<'a>>, FileFault> {

@@ -1,6 +1,7 @@
 // Made by tools/plain-rust of crates/fax_files/src/directory.rt: change that.
 //! The directory of a page.
 
+use crate::entries::Entry;
 use crate::fields::{Fields, FirstEntries};
 use crate::numbers::File;
 use crate::page::read_page;
@@ -70,6 +71,22 @@ impl<'a> Directory<'a> {
             first.see(file.entry_at(self.offset + 2 + 12 * k as usize));
         }
         first
+    }
+
+    /// The first entry of a tag, also of one that is not in `TAGS`. It goes from the first entry
+    /// on.
+    // ensures first { result ≡ Spec.field (entries_of self.now) tag }
+    // ensures inside { IfSome result (λ entry. entry.offset + 4 ≤ length self.now.file) }
+    pub(crate) fn first_of(&self, tag: u16) -> Option<Entry> {
+        let file = self.file();
+        let count = entry_count(&file, self.offset);
+        for k in 0..count {
+            let entry = file.entry_at(self.offset + 2 + 12 * k as usize);
+            if entry.tag() == tag {
+                return Some(entry);
+            }
+        }
+        None
     }
 
     /// The offset of the next directory, in bytes, or 0 at the chain's end.

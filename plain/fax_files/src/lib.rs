@@ -2,6 +2,7 @@
 //! TIFF files of fax pages: header, directories, fields, and the bytes of a strip (TIFF 6.0).
 #![forbid(unsafe_code)]
 
+mod bad_rows;
 mod chain;
 mod directory;
 mod entries;
@@ -16,6 +17,7 @@ mod tiff_writer;
 mod totals;
 mod written;
 
+pub use bad_rows::Received;
 pub use chain::Chain;
 pub use directory::Directory;
 pub use fax_page;

@@ -36,6 +36,12 @@ impl<'a> Strips<'a> {
         }
     }
 
+    /// The directory of the page.
+    // ensures { result ≡ self.now.directory }
+    pub fn directory(&self) -> Directory<'a> {
+        self.directory.fork()
+    }
+
     /// The number of strips.
     // ensures { result ≡ self.now.count }
     pub fn count(&self) -> u32 {

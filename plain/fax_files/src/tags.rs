@@ -1,6 +1,7 @@
 // Made by tools/plain-rust of crates/fax_files/src/tags.rt: change that.
-//! The tags of the fields of a fax page (TIFF 6.0, sections 8, 11 and 12), and the types of their
-//! values that are read (TIFF 6.0, section 2).
+//! The tags of the fields of a fax page (TIFF 6.0, sections 8, 11 and 12; RFC 2306), and the types
+//! of
+//! their values that are read (TIFF 6.0, section 2).
 
 pub(crate) const SHORT: u16 = 3;
 
@@ -41,3 +42,9 @@ pub(crate) const T6_OPTIONS: u16 = 293;
 pub(crate) const RESOLUTION_UNIT: u16 = 296;
 
 pub(crate) const PAGE_NUMBER: u16 = 297;
+
+pub(crate) const BAD_FAX_LINES: u16 = 326;
+
+pub(crate) const CLEAN_FAX_DATA: u16 = 327;
+
+pub(crate) const CONSECUTIVE_BAD_FAX_LINES: u16 = 328;

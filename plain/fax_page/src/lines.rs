@@ -95,8 +95,9 @@ fn check_first_code(source: &BitSource) -> Result<(), StripFault> {
     }
 }
 
-/// Why there is no row whose codes are expected here, where their reader stopped for this cause.
-/// Codes that it takes begin with a first code, so that one is looked for only then.
+/// Why the codes here are no row, where their reader stopped for this cause: an end marker stands
+/// in the place of the first code, or the data end before it; else it is the reader's own cause. A
+/// row that is read has a first code, so the look at it waits until reading has failed.
 // ensures { IsStop codes.now.remaining cause result }
 pub(crate) fn stop(codes: &BitSource, cause: RowFault) -> StripFault {
     match check_first_code(codes) {

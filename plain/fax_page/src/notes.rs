@@ -227,7 +227,7 @@ fn skip_return_eol(source: &mut BitSource, coding: Coding) -> bool {
 }
 
 /// What stands after a return to control, where there is one (T.4, section 4.1.4).
-// ensures { Code.IsAfterMark (Spec.AreRtcEols coding 6 source.now.remaining) result }
+// ensures { Code.IsAfterMark (Ends.AreRtcEols coding 6 source.now.remaining) result }
 fn after_return_to_control<'a>(source: &BitSource<'a>, coding: Coding) -> Option<BitSource<'a>> {
     let mut ahead = source.fork();
     for _eol in 0..RETURN_EOLS {
@@ -240,7 +240,7 @@ fn after_return_to_control<'a>(source: &BitSource<'a>, coding: Coding) -> Option
 
 /// What stands after the end mark of a strip, where there is one (T.4, section 4.1.4; T.6,
 /// End-of-facsimile block).
-// ensures { Code.IsAfterMark (Spec.IsEndMark coding source.now.remaining) result }
+// ensures { Code.IsAfterMark (Ends.IsEndMark coding source.now.remaining) result }
 pub(crate) fn after_end<'a>(source: &BitSource<'a>, coding: Coding) -> Option<BitSource<'a>> {
     // The end of a facsimile block has no fill: with a zero before it a strip of MMR has none, and
     // data.
@@ -335,8 +335,7 @@ impl NotesReader {
     // requires count { length bytes.now ≤ 4294967295 }
     // requires limits { IsStripForm form }
     // requires width { form.width ≡ self.old }
-    // ensures ok { IfOk result (λ notes. (rows : List (List Colour))
-    //     × Spec.IsNotedAs form (bits form.order bytes.now) rows notes) }
+    // ensures ok { IfOk result (λ notes. noted form (bits form.order bytes.now) ≡ Ok notes) }
     // ensures err { IfErr result (IsNotesFault form (bits form.order bytes.now)) }
     // ensures same_width { self.new ≡ self.old }
     pub fn notes(&mut self, bytes: &[u8], form: StripForm) -> Result<StripNotes, NotesFault> {
@@ -362,8 +361,8 @@ impl NotesReader {
     // requires count { length bytes.now ≤ 4294967295 }
     // requires limits { IsStripForm form }
     // requires width { form.width ≡ self.old }
-    // ensures ok { IfOk result (λ found. (rows : List (List Colour))
-    //     × IsNotedUncounted form (bits form.order bytes.now) rows found) }
+    // ensures ok { IfOk result (λ found.
+    //     found ≡ noted_uncounted form (bits form.order bytes.now)) }
     // ensures same_width { self.new ≡ self.old }
     pub fn uncounted_notes(
         &mut self,
@@ -403,8 +402,7 @@ impl NotesReader {
 /// `Strip` where a row cannot be read, and `Memory` where a growth was refused.
 // requires count { length bytes.now ≤ 4294967295 }
 // requires limits { IsStripForm form }
-// ensures ok { IfOk result (λ notes. (rows : List (List Colour))
-//     × Spec.IsNotedAs form (bits form.order bytes.now) rows notes) }
+// ensures ok { IfOk result (λ notes. noted form (bits form.order bytes.now) ≡ Ok notes) }
 // ensures err { IfErr result (IsNotesFault form (bits form.order bytes.now)) }
 pub fn strip_notes(alloc: Global, bytes: &[u8], form: StripForm) -> Result<StripNotes, NotesFault> {
     let mut reader = NotesReader::new(alloc, form.width)?;

@@ -66,7 +66,7 @@ impl<'a> StripReader<'a> {
     // requires count { length bytes.now ≤ 4294967295 }
     // requires limits { IsStripForm form }
     // requires upcoming { row < form.rows }
-    // ensures { IsBegunInside form bytes.now row bits before.entry result }
+    // ensures { IsStartedInside form bytes.now row bits before.entry result }
     pub fn inside(
         alloc: Global,
         bytes: &'a [u8],
@@ -152,8 +152,8 @@ impl<'a> StripReader<'a> {
     #[inline(always)]
     // ensures { IsAdvance self.old result self.new }
     pub fn advance(&mut self) -> Result<bool, StripFault> {
-        // It stands beside `next_row`, which lends the row: the checker proves a lent row through
-        // one layer of crates and not through two, and the walk lends it on.
+        // `next_row` does this and lends the row. The walk, which lends its rows too, calls
+        // `advance` and then `reference`: the checker cannot follow a loan through two crates.
         if let Some(fault) = self.fault {
             return Err(fault);
         }
@@ -191,10 +191,11 @@ impl<'a> StripReader<'a> {
     ///
     /// Why the next row could not be read. Every later call returns the same, until
     /// `restart` or `restart_at`.
-    // ensures row { IfOk result (λ lent. IfSome lent (λ row. IsDue self.old row.now)) }
+    // ensures row { IfOk result (λ lent. IfSome lent (λ row. IsUpcoming self.old row.now)) }
     // ensures* next { sem 𝓛 (EndsAs self.entry (IsNextRow self.old result)) }
     pub fn next_row(&mut self) -> Result<Option<&Row>, StripFault> {
-        // The contract says plainly which row is lent (`IsDue`), beside what the reader is once the
+        // The contract says plainly which row is lent (`IsUpcoming`), beside what the reader is
+        // once the
         // row is given back: a caller that goes no further needs no more.
         if self.advance()? {
             Ok(Some(self.rows.reference()))
@@ -285,8 +286,8 @@ impl<'a> StripReader<'a> {
     /// How the rows of a strip of unknown height end before the next row, whose form has the most
     /// rows that a strip has, `MOST_ROWS`: after a fault with that one, if not well.
     #[cold]
-    // ensures { RowsEndAs self.now.form.coding self.now.row (bits_left self.now) self.now.fault
-    //     result }
+    // ensures { result
+    //     ≡ rows_end self.now.form.coding self.now.row (bits_left self.now) self.now.fault }
     pub(crate) fn uncounted_end(&self) -> RowsEnd {
         let mut source = BitSource::new(self.bytes, self.form.order);
         source.skip(self.place);

@@ -144,7 +144,7 @@ impl<'a> SalvageReader<'a> {
     /// How the rows of a strip of unknown height end before the next row, or that they do not,
     /// `TooMany`.
     #[inline(always)]
-    // ensures { RowsEndAs self.now.form.coding self.now.row self.now.upcoming None result }
+    // ensures { result ≡ rows_end self.now.form.coding self.now.row self.now.upcoming None }
     pub(crate) fn rows_end(&self) -> RowsEnd {
         self.reader.uncounted_end()
     }

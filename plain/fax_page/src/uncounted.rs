@@ -7,8 +7,7 @@ use crate::{Coding, RowsEnd, StripFault};
 use fax_rows::BitSource;
 
 /// Whether after so many rows, and at least one, nothing but fill is left.
-// ensures ends { IsTrue result → Spec.HasDataEnd rows source.now.remaining }
-// ensures more { result ≡ false → Spec.HasDataEnd rows source.now.remaining → ⊥ }
+// ensures { result ≡ Spec.has_data_end rows source.now.remaining }
 fn has_data_end(source: &BitSource, rows: u32) -> bool {
     if rows == 0 {
         return false;
@@ -90,7 +89,7 @@ pub fn may_be_end_mark(source: &BitSource, coding: Coding) -> bool {
 /// most.
 #[cold]
 #[inline(never)]
-// ensures { Spec.RowsEndAs coding rows source.now.remaining fault result }
+// ensures { result ≡ Spec.rows_end coding rows source.now.remaining fault }
 pub fn classify_end(
     source: &BitSource,
     coding: Coding,

@@ -7,7 +7,7 @@ use crate::salvage_rows::{SalvagedPart, part_of};
 use crate::shown_rows::ShownRows;
 use crate::{Cursor, End};
 use fax_bits::Memory;
-use fax_files::PageForm;
+use fax_files::{PageForm, Received};
 use fax_page::{PlaceFault, ReferenceRow, RowsEnd, SalvageReader, StripForm, UncountedSalvage};
 use fax_rows::Row;
 use kit_std::alloc::Global;
@@ -72,6 +72,13 @@ impl<'a> DamagedPage<'a> {
     // ensures limits { IsPageForm result }
     pub fn form(&self) -> PageForm {
         self.upcoming.form
+    }
+
+    /// What its receiver counted of bad rows (RFC 2306, BadFaxLines, CleanFaxData and
+    /// ConsecutiveBadFaxLines). It takes no memory, and no page is refused for these fields.
+    // ensures { result ≡ received self.now.here.endian self.now.file self.now.here.offset }
+    pub fn received(&self) -> Received {
+        self.upcoming.strips.directory().received()
     }
 
     /// Before the first of its rows. It takes all the memory that the page needs.

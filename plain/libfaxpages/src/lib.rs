@@ -10,6 +10,7 @@ use fax_c::calls::{
     FaxNote,
     FaxOptions,
     FaxPlace,
+    FaxReceived,
     FaxReport,
     FaxRow,
     FaxStrip,
@@ -276,6 +277,22 @@ pub unsafe extern "C" fn faxpages_end_pages(
     // SAFETY: as above.
     unsafe {
         calls::faxpages_end_pages(kit_std::c::items_mut(file, file_len), &mut *written)
+    }
+}
+
+/// # Safety
+///
+/// The header says what the caller owes.
+#[no_mangle]
+pub unsafe extern "C" fn faxpages_received(
+    file: *const u8,
+    file_len: usize,
+    page: u32,
+    received: *mut FaxReceived,
+) -> u32 {
+    // SAFETY: as above.
+    unsafe {
+        calls::faxpages_received(kit_std::c::items(file, file_len), page, &mut *received)
     }
 }
 

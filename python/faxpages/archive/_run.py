@@ -104,7 +104,7 @@ class Run:
         self._kept = self._due = self._gone = self._left = self._failed = self._changed = self._unmarked = 0
         self._began = time.monotonic()
         self._target = job.target_root() if job.target is not None else None
-        # When hard links of a fax that is deleted changed, and to which faxes a link leads that stays.
+        # When the hard links of deleted faxes changed; and the faxes to which links lead that stay.
         self._links = files.Links()
         self._linked: Set[Tuple[int, int]] = set()
         # Why faxes stay that were to be deleted.

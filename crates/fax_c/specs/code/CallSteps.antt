@@ -21,7 +21,7 @@ use Rattle.fax_c.specs.declared.fill.Stop.TheVariants.{Done, Ended, Memory, NoRo
 use Rattle.fax_c.specs.declared.places.FaxPlace.{FaxPlace}
 use Rattle.fax_c.specs.declared.rows.FaxRow.{FaxRow}
 use Rattle.fax_c.specs.views.Filled.{row_at}
-use Rattle.fax_c.specs.views.Places.{HasRuns, KeepsRuns, place_begun, long_place_of, most_runs}
+use Rattle.fax_c.specs.views.Places.{HasRuns, KeepsRuns, place_started, long_place_of, most_runs}
 
 -- why a reader returns nothing more
 abbrev pub stop_of : WalkFault → Stop
@@ -69,12 +69,12 @@ IsPutTo numbers walk old at (Err stop) new_walk new =
 -- a walk after so many of its rows were written: one row further where that one has no room
 pub record IsWalkAfter (old : WalkView) (filled : Filled) (new : WalkView) : Type 0 where
   pub same_file : new.file ≡ old.file
-  pub same_begun : new.origin ≡ old.origin
+  pub same_started : new.origin ≡ old.origin
   pub yielded : filled.stop ≢ NoRoom → new.yielded ≡ filled.count
 
 -- a walk begins at a place, which lacks no runs
 abbrev pub StartsAt : WalkStart → FaxPlace → List ℕ → Type 0
-StartsAt origin place runs = (origin ≡ place_begun place runs) × (place.runs ≤ length runs)
+StartsAt origin place runs = (origin ≡ place_started place runs) × (place.runs ≤ length runs)
 
 -- the place inside a strip after the rows that a walk has returned is reported, or there is none,
 -- or its runs have no room; no run is changed that the place of no row would take

@@ -6,11 +6,11 @@ use Rattle.fax_bits.specs.Bits.{bits}
 use Rattle.fax_rows.specs.Rows.{Colour, runs_of}
 use Rattle.fax_rows.specs.Coded.{packed_len}
 use Rattle.fax_page.specs.declared.StripForm.{StripForm}
-use Rattle.fax_page.specs.Lines.{IsLine, white_row}
-use Rattle.fax_page.specs.Strip.{AreLines, coded_strip, most_rows}
+use Rattle.fax_page.specs.Lines.{IsCause, IsLine, white_row}
+use Rattle.fax_page.specs.Strip.{coded_strip, most_rows}
 use Rattle.fax_page.specs.declared.StripFault.{StripFault}
 use Rattle.fax_page.specs.declared.RowsEnd.{RowsEnd}
-use Rattle.fax_page.specs.Uncounted.{RowsEndAs}
+use Rattle.fax_page.specs.Uncounted.{rows_end}
 use Rattle.fax_page.specs.views.Strip.{IsStripForm}
 use Rattle.fax_files.specs.declared.Cause.TheVariants.{Strip}
 use Rattle.fax_walk.specs.declared.end.End.TheVariants.{EndOfPages, Fault, Outside}
@@ -82,12 +82,19 @@ abbrev pub stop_in_strip : ℕ → ℕ → Option StripFault → Stop
 stop_in_strip page row None = Ended EndOfPages
 stop_in_strip page row (Some fault) = Ended (Fault page row (Strip fault))
 
+-- no more rows stand at a place of a strip, before these bits: it has all of them, or this fault is
+-- in the way of the next
+abbrev pub IsMet : StripForm → StripPlace → List Bool → Option StripFault → Type 0
+IsMet form to remaining None = to.row ≡ form.rows
+IsMet form to remaining (Some fault) =
+    (to.row < form.rows) × IsCause form to.row to.reference remaining fault
+
 -- why no row is read after a place: it has no room; or it has, and no more rows stand there
 abbrev pub StopsAt : StripForm → List Bool → StripPlace → ℕ → ℕ → ℕ → Stop → Type 0
 StopsAt form all to page stride remaining stop =
     ((stop ≡ Done) × (remaining < stride))
     ⊎ ((stride ≤ remaining) × (met : Option StripFault) × (stop ≡ stop_in_strip page to.row met)
-    × AreLines form to.row to.reference (drop to.bits all) [] met (drop to.bits all))
+    × IsMet form to (drop to.bits all) met)
 
 -- the rows from one place of a strip to another are written, each in so many bytes, and no more
 pub record AreStripRows (form : StripForm) (all : List Bool) (page stride : ℕ) (from : StripPlace)
@@ -158,7 +165,7 @@ abbrev pub IsEndAt : FaxStrip → StripForm → List ℕ → FaxPlace → Stop �
 IsEndAt given form strip place stop None = (0 < given.rows) ⊎ (met_in_strip stop ≡ None)
 IsEndAt given form strip place stop (Some end) =
     (given.rows ≡ 0) × (met : Option StripFault) × (met_in_strip stop ≡ Some met)
-    × RowsEndAs form.coding place.row (drop place.bits (bits form.order strip)) met end
+    × (end ≡ rows_end form.coding place.row (drop place.bits (bits form.order strip)) met)
 
 -- what was written is reported, and that rows of a strip of unknown height end so at a place
 abbrev pub IsRowsEndTold : Filled → FaxPlace → RowsEnd → FaxTold → ℕ → Type 0

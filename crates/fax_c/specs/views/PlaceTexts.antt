@@ -7,7 +7,7 @@ use Rattle.fax_walk.specs.Pages.{IsCursor, IsLongCursor, LongCursorValue, cursor
 use Rattle.fax_walk.specs.Pages.{long_cursor_text}
 use Rattle.fax_c.specs.declared.places.FaxPlace.{FaxPlace}
 use Rattle.fax_c.specs.Texts.{IsTextPut}
-use Rattle.fax_c.specs.views.Places.{HasRuns, LacksRuns, place_begun, long_place_of, most_runs}
+use Rattle.fax_c.specs.views.Places.{HasRuns, LacksRuns, place_started, long_place_of, most_runs}
 use Rattle.fax_c.specs.views.Places.{place_at}
 
 -- a text is written where it has room, which the status says
@@ -19,7 +19,7 @@ IsTextTold text old new len status =
 abbrev pub TellsPlaceText : FaxPlace → List ℕ → List ℕ → List ℕ → ℕ → ℕ → Type 0
 TellsPlaceText place runs old new len status =
     ((place.runs ≤ length runs)
-    × IsTextTold (start_text (place_begun place runs)) old new len status)
+    × IsTextTold (start_text (place_started place runs)) old new len status)
     ⊎ ((len ≡ 0) × (new ≡ old)
     × ((LacksRuns place runs × (status ≡ 3)) ⊎ ((place.runs ≤ length runs) × (status ≡ 4))))
 

@@ -39,8 +39,8 @@ abbrev pub LacksRuns : FaxPlace → List ℕ → Type 0
 LacksRuns place runs = length runs < place.runs
 
 -- what a walk begins with at a place: inside a strip where that has runs, else at the cursor
-abbrev pub place_begun : FaxPlace → List ℕ → WalkStart
-place_begun place runs =
+abbrev pub place_started : FaxPlace → List ℕ → WalkStart
+place_started place runs =
     if nat_lt 0 place.runs then AtLongCursor (long_place_of place runs)
     else AtCursor (cursor_of place)
 
@@ -97,7 +97,7 @@ pub record RowsMemory (N : Type 0) : Type 0 where
 abbrev pub GoesOn : {N : Type 0} → (List Colour → List N) → List ℕ → RowsMemory N → RowsMemory N
     → FaxTold → ℕ → Type 0
 GoesOn numbers file old new told status =
-    let origin = place_begun old.place old.runs in
+    let origin = place_started old.place old.runs in
     ((old.place.runs ≤ length old.runs) × (filled : Filled)
     × AreRowsFilled numbers file origin old.rows old.out filled new.rows new.out
     × IsAfter file origin filled old.runs new.place new.runs × IsTold filled told status)

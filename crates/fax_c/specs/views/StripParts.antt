@@ -1,6 +1,6 @@
 -- The rows of a strip of which the first bytes are there, where more may follow.
 -- A definition without a citation is this project's profile.
-use Rattle.std.specs.Prelude.{◌≡◌, ℕ, ◌-◌, ◌*◌, ◌<◌, ◌≤◌, ◌⊎◌, Bool, List, [], ◌++◌, length, drop}
+use Rattle.std.specs.Prelude.{◌≡◌, ℕ, ◌-◌, ◌*◌, ◌<◌, ◌≤◌, ◌⊎◌, Bool, List, ◌++◌, length, drop}
 use Rattle.std.specs.Prelude.{flat_map, ⊤, Option, None}
 use Rattle.fax_bits.specs.Bits.{bits}
 use Rattle.fax_rows.specs.Rows.{Colour}
@@ -11,8 +11,7 @@ use Rattle.fax_page.specs.declared.StripFault.{StripFault}
 use Rattle.fax_page.specs.declared.StripFault.TheVariants.{DataEnds, EndMarker}
 use Rattle.fax_page.specs.declared.StripForm.{StripForm}
 use Rattle.fax_page.specs.Lines.{IsCause}
-use Rattle.fax_page.specs.Strip.{AreLines}
-use Rattle.fax_page.specs.Uncounted.{RowsEndAs, MayHaveEndMark}
+use Rattle.fax_page.specs.Uncounted.{MayHaveEndMark, rows_end}
 use Rattle.fax_c.specs.declared.places.FaxPlace.{FaxPlace}
 use Rattle.fax_c.specs.declared.strip_form.FaxStrip.{FaxStrip}
 use Rattle.fax_c.specs.declared.told.FaxTold.{FaxTold}
@@ -20,7 +19,7 @@ use Rattle.fax_c.specs.Raster.{padded_row}
 use Rattle.fax_c.specs.Told.{no_fault}
 use Rattle.fax_c.specs.views.Places.{most_runs}
 use Rattle.fax_c.specs.views.BareStrips.{AskedStrip, HasRoom, IsUpcomingAt, IsPlaceAfter}
-use Rattle.fax_c.specs.views.BareStrips.{IsReadableIn}
+use Rattle.fax_c.specs.views.BareStrips.{IsMet, IsReadableIn}
 use Rattle.fax_c.specs.views.BareStrips.{ReadsTo, StripMemory, StripPlace, TellsStripRows}
 
 -- the rows from one place of a strip to another are written and reported, each in so many bytes,
@@ -61,9 +60,8 @@ abbrev pub IsUnsettled : FaxStrip → StripForm → List ℕ → StripPlace → 
 IsUnsettled given form strip to =
     let remaining = drop to.bits (bits form.order strip) in
     ((to.row < form.rows) × IsCause form to.row to.reference remaining DataEnds)
-    ⊎ ((given.rows ≡ 0) × (stop : Option StripFault) × (end : RowsEnd)
-    × AreLines form to.row to.reference remaining [] stop remaining
-    × RowsEndAs form.coding to.row remaining stop end × MayChange form.coding remaining end)
+    ⊎ ((given.rows ≡ 0) × (stop : Option StripFault) × IsMet form to remaining stop
+    × MayChange form.coding remaining (rows_end form.coding to.row remaining stop))
 
 -- no row is read from a place that these bytes do not settle: they end before it, and a strip may
 -- reach it; or the height is unknown, they are as many as a strip has, and may end otherwise
@@ -71,8 +69,8 @@ abbrev pub IsUnsettledAt : FaxStrip → StripForm → List ℕ → FaxPlace → 
 IsUnsettledAt given form strip place =
     let remaining = drop place.bits (bits form.order strip) in
     ((place.row < form.rows) × (8 * length strip < place.bits) × (place.bits ≤ 8 * 536870911))
-    ⊎ ((given.rows ≡ 0) × (place.row ≡ form.rows) × (end : RowsEnd)
-    × RowsEndAs form.coding place.row remaining None end × MayChange form.coding remaining end)
+    ⊎ ((given.rows ≡ 0) × (place.row ≡ form.rows)
+    × MayChange form.coding remaining (rows_end form.coding place.row remaining None))
 
 -- rows are read up to one that has room and is not settled
 abbrev pub AwaitsMore : StripForm → AskedStrip → StripMemory → StripMemory → FaxTold → Type 0

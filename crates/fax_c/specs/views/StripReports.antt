@@ -1,17 +1,15 @@
 -- What is reported of a strip with no file around it. A definition without a citation is this
 -- project's profile.
-use Rattle.std.specs.Prelude.{◌≡◌, ℕ, ◌⊎◌, List}
+use Rattle.std.specs.Prelude.{◌≡◌, ℕ, ◌⊎◌, List, Ok, Err}
 use Rattle.fax_bits.specs.Bits.{bits}
-use Rattle.fax_rows.specs.Rows.{Colour}
 use Rattle.fax_page.specs.declared.StripFault.{StripFault}
 use Rattle.fax_page.specs.declared.StripForm.{StripForm}
-use Rattle.fax_page.specs.declared.notes.NotesFault.TheVariants as Refused
 use Rattle.fax_page.specs.declared.notes.StripNotes.{StripNotes}
-use Rattle.fax_page.specs.Strip.{IsNotedAs}
+use Rattle.fax_page.specs.Strip.{noted}
 use Rattle.fax_page.specs.declared.notes.UncountedNotes.{UncountedNotes}
 use Rattle.fax_page.specs.declared.RowsEnd.{RowsEnd}
 use Rattle.fax_page.specs.declared.RowsEnd.TheVariants.{DataEnd, Marked}
-use Rattle.fax_page.specs.views.Strip.{IsNotedUncounted, IsNotesFault}
+use Rattle.fax_page.specs.views.Strip.{noted_uncounted}
 use Rattle.fax_files.specs.declared.Cause.TheVariants.{Strip}
 use Rattle.fax_c.specs.declared.faults.FaxFault.{FaxFault}
 use Rattle.fax_c.specs.declared.strip_form.FaxStrip.{FaxStrip}
@@ -54,8 +52,7 @@ report_of_end rows end notes = report_without_notes rows (end_fault 0 rows end)
 abbrev pub TellsUncountedReport : List ℕ → FaxStrip → FaxStripReport → FaxStripReport → ℕ → Type 0
 TellsUncountedReport strip given old report status =
     ((form : StripForm) × IsReadableUncounted strip given form
-    × (((rows : List (List Colour)) × (found : UncountedNotes)
-    × IsNotedUncounted form (bits form.order strip) rows found
+    × (((found : UncountedNotes) × (found ≡ noted_uncounted form (bits form.order strip))
     × (report ≡ report_of_end found.rows found.end found.notes) × (status ≡ end_status found.end))
     ⊎ ((status ≡ 4) × (report ≡ old))))
     ⊎ ((status ≡ 7) × ((form : StripForm) → IsReadableUncounted strip given form → ⊥)
@@ -67,11 +64,10 @@ TellsUncountedReport strip given old report status =
 abbrev pub TellsStripReport : List ℕ → FaxStrip → FaxStripReport → FaxStripReport → ℕ → Type 0
 TellsStripReport strip given old report status =
     ((form : StripForm) × IsReadable strip given form
-    × (((status ≡ 1) × (rows : List (List Colour)) × (notes : StripNotes)
-    × IsNotedAs form (bits form.order strip) rows notes
+    × (((status ≡ 1) × (notes : StripNotes) × (noted form (bits form.order strip) ≡ Ok notes)
     × (report ≡ report_of_notes form.rows notes))
     ⊎ ((status ≡ 2) × (row : ℕ) × (fault : StripFault)
-    × IsNotesFault form (bits form.order strip) (Refused.Strip row fault)
+    × (noted form (bits form.order strip) ≡ Err (row, fault))
     × (report ≡ report_without_notes row (fault_of_cause 0 row (Strip fault))))
     ⊎ ((status ≡ 4) × (report ≡ old))))
     ⊎ (((form : StripForm) → IsReadable strip given form → ⊥)

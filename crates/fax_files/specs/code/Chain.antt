@@ -65,7 +65,7 @@ cycle_start_of tiff = turning_page (chain_of tiff).end (length (chain_of tiff).o
 -- a reader's fields: the next offset stands after the directories returned, which are the first of
 -- the chain
 pub record IsChainPlace (tiff : TiffFile) (next_at yielded : ℕ) : Type 0 where
-  pub due_is : next_at ≡ offset tiff yielded
+  pub upcoming_is : next_at ≡ offset tiff yielded
   pub within : yielded ≤ length (chain_of tiff).offsets
   pub few : HasFewPages tiff
 

@@ -6,7 +6,7 @@ use Rattle.fax_bits.specs.declared.Colour.{Colour}
 use Rattle.fax_bits.specs.Bits.{bits}
 use Rattle.fax_rows.specs.Rows.{other}
 use Rattle.fax_page.specs.declared.StripFault.{StripFault}
-use Rattle.fax_page.specs.views.Strip.{IsStrip}
+use Rattle.fax_page.specs.laws.Lines.{IsStrip}
 use Rattle.fax_files.specs.declared.FileFault.TheVariants.{DirectoryLoop, DirectoryOutside}
 use Rattle.fax_files.specs.declared.FileFault.TheVariants.{StripOutside}
 use Rattle.fax_files.specs.declared.Cause.{Cause}

@@ -27,8 +27,8 @@ chain_of tiff = read_chain tiff.head tiff.file
 
 -- the answer of a reader: the directory of the chain that stands after those returned, or else the
 -- end of the chain
-abbrev pub due_answer : ChainState → Result (Option TiffDirectory) FileFault
-due_answer chain =
+abbrev pub upcoming_answer : ChainState → Result (Option TiffDirectory) FileFault
+upcoming_answer chain =
     let whole = chain_of chain.tiff in
     answer_at chain.tiff (slice_get whole.offsets chain.yielded) whole.end
 

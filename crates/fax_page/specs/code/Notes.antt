@@ -1,6 +1,6 @@
 -- A strip that is read for its notes.
-use Rattle.std.specs.Prelude.{◌≡◌, ◌≢◌, ℕ, ◌+◌, ◌⊎◌, ◌↔◌, Bool, true, false, List, [], ◌++◌, length}
-use Rattle.std.specs.Prelude.{Option, Some, None, IsTrue, ⊤}
+use Rattle.std.specs.Prelude.{◌≡◌, ◌≢◌, ℕ, ◌+◌, ◌⊎◌, ◌↔◌, Bool, true, false, List, [], ◌∷◌, ◌++◌}
+use Rattle.std.specs.Prelude.{length, Option, Some, None, IsTrue, ⊤}
 use Rattle.std.specs.List.{Contains}
 use Rattle.fax_bits.specs.declared.Colour.{Colour}
 use Rattle.fax_bits.specs.views.Source.{Source}
@@ -16,7 +16,6 @@ use Rattle.fax_page.specs.declared.notes.NotesFault.{NotesFault}
 use Rattle.fax_page.specs.declared.notes.NotesFault.TheVariants.{Memory, Strip}
 use Rattle.fax_page.specs.declared.notes.StripNotes.{StripNotes}
 use Rattle.fax_page.specs.declared.notes.UncountedNotes.{UncountedNotes}
-use Rattle.fax_page.specs.Uncounted.{RowsEndAs}
 use Rattle.fax_page.specs.declared.Dimension.{Dimension}
 use Rattle.fax_page.specs.views.Strip.{IsStripForm}
 use Rattle.fax_rows.specs.declared.RowFault.{RowFault}
@@ -24,9 +23,25 @@ use Rattle.fax_bits.specs.Reading.{read, failed}
 use Rattle.fax_page.specs.Lines.{IsLine, IsCause, read_codes, read_start, white_row}
 use Rattle.fax_page.specs.code.Starts.{IsStop}
 use Rattle.fax_page.specs.Strip.{row_bits}
-use Rattle.fax_page.specs.Strip.{AreLines}
-use Rattle.fax_page.specs.Strip.{IsRtcEol, AreRtcEols, IsEndMark, HasEndMark}
-use Rattle.fax_page.specs.Strip.{HasNonCanonicalRow}
+use Rattle.fax_page.specs.code.Ends.{IsRtcEol, AreRtcEols, IsEndMark, HasEndMark}
+use Rattle.fax_page.specs.Uncounted.{rows_end}
+use Rattle.fax_page.specs.laws.Lines.{AreLines}
+
+-- the codes of row i, after what stands before them, are others than those that T.4 chooses
+abbrev pub HasOtherCodes : StripForm → ℕ → List Colour → List Bool → List Colour → List Bool
+    → Type 0
+HasOtherCodes form i reference b row rest =
+    (dimension : Dimension) × (codes : List Bool)
+    × (read_start form.coding i b ≡ read dimension codes)
+    × (codes ≢ row_bits dimension reference row ++ rest)
+
+-- from row i on, over this reference, the codes of some row are others than those that T.4 chooses
+abbrev pub HasNonCanonicalRow : StripForm → ℕ → List Colour → List Bool → List (List Colour)
+    → Type 0
+HasNonCanonicalRow form i reference b [] = ⊥
+HasNonCanonicalRow form i reference b (row ∷ rows) =
+    (rest : List Bool) × IsLine form i reference b row rest
+    × (HasOtherCodes form i reference b row rest ⊎ HasNonCanonicalRow form (i + 1) row rest rows)
 
 -- a row's codes are those that T.4 chooses (T.4, sections 4.1.1 and 4.2.1.3.3)
 abbrev pub IsChosen : Dimension → List Colour → List Bool → List Colour → List Bool → Type 0
@@ -153,5 +168,5 @@ pub record AreFoundAfter (coding : Coding) (remaining : List Bool) (rows : ℕ) 
     StripFault)
     (other : Bool) (found : UncountedNotes) : Type 0 where
   pub rows_are : found.rows ≡ rows
-  pub end : RowsEndAs coding rows remaining stop found.end
+  pub end : found.end ≡ rows_end coding rows remaining stop
   pub notes : AreNotesAfter coding remaining other found.notes

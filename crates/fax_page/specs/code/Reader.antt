@@ -20,7 +20,7 @@ pub record IsReading (form : StripForm) (bytes : List ℕ) (source : Source) (pl
   pub limits : IsStripForm form
   pub width : length reference ≡ form.width
   pub count : length bytes ≤ 4294967295
-  pub begun_before : origin ≤ row
+  pub started_before : origin ≤ row
   pub within : row ≤ form.rows
   pub placed : place ≤ 8 * length bytes
   pub at_row : fault ≡ None → source ≡ source_of form.order bytes place

@@ -1,11 +1,11 @@
 -- Laws of data that may continue: what is read of bits stays, whatever bits follow them. Functions
 -- of the module `laws` prove them.
-use Rattle.std.specs.Prelude.{◌≢◌, ℕ, ◌+◌, Bool, List, ◌++◌, length, Option, Some}
+use Rattle.std.specs.Prelude.{◌≡◌, ◌≢◌, ℕ, ◌+◌, Bool, IsTrue, List, ◌++◌, length, Option, Some}
 use Rattle.fax_bits.specs.declared.Colour.{Colour}
 use Rattle.fax_page.specs.declared.StripFault.TheVariants.{DataEnds, EndMarker}
 use Rattle.fax_page.specs.Lines.{Coding, IsCause, IsLine, StripFault, StripForm}
-use Rattle.fax_page.specs.Strip.{AreLines, HasEndMark}
-use Rattle.fax_page.specs.Uncounted.{RowsEndAs, Fault, HasDataEnd, Marked}
+use Rattle.fax_page.specs.Uncounted.{Fault, Marked, has_data_end, has_end_mark, rows_end}
+use Rattle.fax_page.specs.laws.Lines.{AreLines}
 use Rattle.fax_page.specs.laws.Writer.{last_of}
 
 -- row i of a strip is the same row, whatever follows the bits; and the fault in its way is the same
@@ -33,10 +33,11 @@ ReadsInPieces =
 -- of all bits, nothing else is left of the first of them
 pub record EndsStayWhateverFollows : Type 0 where
   pub mark : (coding : Coding) (row : ℕ) (remaining more : List Bool) (stop : Option StripFault)
-      → HasEndMark coding remaining → RowsEndAs coding row (remaining ++ more) stop Marked
+      → IsTrue (has_end_mark coding remaining)
+      → rows_end coding row (remaining ++ more) stop ≡ Marked
   pub fault : (form : StripForm) (i row : ℕ) (reference : List Colour) (remaining more : List Bool)
       (fault : StripFault) → fault ≢ DataEnds → fault ≢ EndMarker
       → IsCause form i reference remaining fault
-      → RowsEndAs form.coding row (remaining ++ more) (Some fault) (Fault fault)
-  pub fill : (row : ℕ) (remaining more : List Bool) → HasDataEnd row (remaining ++ more)
-      → HasDataEnd row remaining
+      → rows_end form.coding row (remaining ++ more) (Some fault) ≡ Fault fault
+  pub fill : (row : ℕ) (remaining more : List Bool)
+      → IsTrue (has_data_end row (remaining ++ more)) → IsTrue (has_data_end row remaining)

@@ -3,7 +3,8 @@
 use Rattle.std.specs.Prelude.{◌≡◌, ℕ, ◌≤◌, ◌⊎◌, Bool, List, ◌++◌, map, Option}
 use Rattle.fax_bits.specs.declared.Colour.{Colour}
 use Rattle.fax_page.specs.Lines.{StripFault, StripForm}
-use Rattle.fax_page.specs.Uncounted.{DataEnd, IsUncounted, Marked, RowsEnd, uncounted}
+use Rattle.fax_page.specs.Uncounted.{DataEnd, Marked, RowsEnd, uncounted}
+use Rattle.fax_page.specs.laws.Uncounted.{IsUncounted}
 use Rattle.fax_page.specs.Salvage.{AreSalvaged, SalvagedRow, found}
 use Rattle.fax_page.specs.LeftUncounted.{AreLeftUncounted, IsLeftUncounted}
 

@@ -5,8 +5,8 @@ use Rattle.fax_bits.specs.declared.Colour.{Colour}
 use Rattle.fax_bits.specs.Bits.{bits}
 use Rattle.fax_page.specs.declared.StripForm.{StripForm}
 use Rattle.fax_page.specs.declared.StripFault.{StripFault}
-use Rattle.fax_page.specs.Strip.{AreLines}
-use Rattle.fax_page.specs.views.Strip.{IsStrip}
+use Rattle.fax_page.specs.laws.Lines.{AreLines}
+use Rattle.fax_page.specs.laws.Lines.{IsStrip}
 use Rattle.fax_page.specs.views.Reader.{IsAdvance, IsAtEnd, MeetsFault, ReadsRow, StripState}
 use Rattle.fax_page.specs.views.Reader.{bits_left, strip_after}
 

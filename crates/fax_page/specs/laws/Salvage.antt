@@ -4,12 +4,14 @@ use Rattle.std.specs.Prelude.{◌≡◌, ◌≢◌, ℕ, ◌+◌, ◌<◌, ◌�
 use Rattle.std.specs.Prelude.{drop, Option, Some, None}
 use Rattle.fax_bits.specs.declared.Colour.{Colour}
 use Rattle.fax_page.specs.Lines.{Coding, Mmr, StripFault, StripForm}
-use Rattle.fax_page.specs.Salvage.{AreSalvaged, SalvagedRow, after_eol, found, resync_point}
-use Rattle.fax_page.specs.Salvage.{unended}
+use Rattle.fax_page.specs.Salvage.{AreSalvaged, IsSalvagedStrip, SalvagedRow, after_eol, found}
+use Rattle.fax_page.specs.Salvage.{resync_point, unended}
 use Rattle.fax_page.specs.declared.StripFault.TheVariants.{MissingEol}
-use Rattle.fax_page.specs.Strip.{AreLines, eol_bits}
+use Rattle.fax_page.specs.Strip.{eol_bits}
+use Rattle.fax_page.specs.laws.Lines.{AreLines}
 use Rattle.fax_page.specs.declared.salvage_reader.Salvaged.{Salvaged}
 use Rattle.fax_page.specs.views.Salvage.{IsSalvageStep, SalvageState}
+use Rattle.fax_page.specs.laws.Lines.{IsStrip}
 
 -- from row i on each row is found or lost in one way, and all rows of the strip are
 pub record AreSalvagedOneWay (form : StripForm) (i : ℕ) (before : Option StripFault)
@@ -29,6 +31,8 @@ SalvagesStripsOneWay =
 -- where all rows are found they are those that the strip is read as, and all that it is read as are
 -- found where it is read wholly
 pub record FindsWholeStrips : Type 0 where
+  pub strip : (form : StripForm) (b : List Bool) (rows : List (List Colour))
+      → IsSalvagedStrip form b (map (λ row. found row) rows) → IsStrip form b rows None
   pub whole : (form : StripForm) (i : ℕ) (reference : List Colour) (b : List Bool)
       (rows : List (List Colour))
       → AreSalvaged form i None reference b (map (λ row. found row) rows)
@@ -64,7 +68,7 @@ abbrev pub IsRestOf : List Bool → List Bool → Type 0
 IsRestOf all rest = (n : ℕ) × (n ≤ length all) × (drop n all ≡ rest)
 
 -- a row after others begins among the bits of the strip
-abbrev pub DueRowsStandInStrips : Type 0
-DueRowsStandInStrips =
+abbrev pub UpcomingRowsStandInStrips : Type 0
+UpcomingRowsStandInStrips =
     (old new : SalvageState) (salvaged : Salvaged) → IsSalvageStep old (Some salvaged) new
     → new.row < new.form.rows → IsRestOf old.upcoming new.upcoming

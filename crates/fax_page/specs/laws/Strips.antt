@@ -1,17 +1,14 @@
 -- Laws of strips, which the functions of the module `laws` prove.
 -- A definition without a citation is this project's profile.
 use Rattle.std.specs.Prelude.{◌≡◌, ℕ, ◌+◌, ◌<◌, ◌≤◌, ◌%◌, Bool, true, List, ◌++◌, length}
-use Rattle.std.specs.Prelude.{drop, Option, None, All}
+use Rattle.std.specs.Prelude.{drop, None, All}
 use Rattle.fax_bits.specs.declared.Colour.{Colour}
 use Rattle.fax_page.specs.declared.StripForm.{StripForm}
 use Rattle.fax_page.specs.Lines.{IsLine, IsCause}
 use Rattle.fax_bits.specs.Bits.{bits}
-use Rattle.fax_bits.specs.laws.Codes.{IsReadInOneWay, IsOne}
-use Rattle.fax_page.specs.declared.StripFault.{StripFault}
+use Rattle.fax_bits.specs.laws.Codes.{IsReadInOneWay}
 use Rattle.fax_page.specs.views.Strip.{IsStripForm}
-use Rattle.fax_page.specs.Strip.{IsNotedAs}
-use Rattle.fax_page.specs.views.Strip.{IsStrip}
-use Rattle.fax_page.specs.declared.notes.StripNotes.{StripNotes}
+use Rattle.fax_page.specs.laws.Lines.{IsStrip}
 use Rattle.fax_page.specs.Strip.{eol_bits, fill_zeros, coded_bits, coded_strip}
 
 -- the rows are as many and as wide as the form says
@@ -30,16 +27,6 @@ pub record ReadsLinesOneWay (form : StripForm) (i : ℕ) (reference : List Colou
   pub width : (b : List Bool) (row : List Colour) (rest : List Bool)
       → length reference ≡ form.width → IsLine form i reference b row rest
       → length row ≡ form.width
-
--- bits are read in one way as a strip of the form: one list of rows and one end
-abbrev pub ReadsStripsOneWay : StripForm → Type 0
-ReadsStripsOneWay form = (b : List Bool) → IsOne (IsStrip form b)
-
--- a strip of which all rows can be read has one set of notes
-abbrev pub StripsAreNotedInOneWay : Type 0
-StripsAreNotedInOneWay =
-    (form : StripForm) (b : List Bool) (rows others : List (List Colour)) (notes other : StripNotes)
-    → IsNotedAs form b rows notes → IsNotedAs form b others other → notes ≡ other
 
 -- after so many bits and this much fill an EOL ends on a byte boundary
 -- (T.4, section 4.1.3; TIFF 6.0, T4Options)
@@ -64,11 +51,3 @@ abbrev pub CodedStripsAreRead : Type 0
 CodedStripsAreRead =
     (form : StripForm) (k : ℕ) (rows : List (List Colour)) → IsStripForm form → AreRowsOf form rows
     → IsStrip form (bits form.order (coded_strip form k rows)) rows None
-
--- and as nothing else
-abbrev pub CodedStripsAreOneStrip : Type 0
-CodedStripsAreOneStrip =
-    (form : StripForm) (k : ℕ) (rows others : List (List Colour)) (end : Option StripFault)
-    → IsStripForm form → AreRowsOf form rows
-    → IsStrip form (bits form.order (coded_strip form k rows)) others end
-    → (rows ≡ others) × (end ≡ None)

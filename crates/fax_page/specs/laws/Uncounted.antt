@@ -1,17 +1,19 @@
 -- Laws of rows of a strip of unknown height, which functions of the module `laws` prove.
-use Rattle.std.specs.Prelude.{ℕ, Bool, List, length, None}
+use Rattle.std.specs.Prelude.{◌≡◌, ℕ, Bool, List, length, None}
 use Rattle.fax_bits.specs.declared.Colour.{Colour}
 use Rattle.fax_bits.specs.Bits.{bits}
-use Rattle.fax_bits.specs.laws.Codes.{IsOne}
 use Rattle.fax_page.specs.Lines.{Coding, Mmr, StripForm}
-use Rattle.fax_page.specs.Strip.{coded_strip}
-use Rattle.fax_page.specs.Uncounted.{DataEnd, IsUncounted, Marked, RowsEnd}
+use Rattle.fax_page.specs.Strip.{coded_strip, read_strip}
+use Rattle.fax_page.specs.Uncounted.{DataEnd, Marked, RowsEnd, rows_end, uncounted}
 use Rattle.fax_page.specs.laws.Strips.{AreRowsOf}
-use Rattle.fax_page.specs.views.Strip.{IsStrip, IsStripForm}
+use Rattle.fax_page.specs.views.Strip.{IsStripForm}
+use Rattle.fax_page.specs.laws.Lines.{IsStrip}
 
--- any bits are read in one way as rows of a strip of unknown height: one list of rows and one end
-abbrev pub ReadsUncountedOneWay : StripForm → Type 0
-ReadsUncountedOneWay form = (b : List Bool) → IsOne (IsUncounted form b)
+-- the bits are these rows, of unknown number, each over the row before it, and they end so
+abbrev pub IsUncounted : StripForm → List Bool → List (List Colour) → RowsEnd → Type 0
+IsUncounted form b rows end =
+    let strip = read_strip (uncounted form) b in
+    (strip.rows ≡ rows) × (rows_end form.coding (length rows) strip.remaining strip.end ≡ end)
 
 -- rows of a strip of unknown height, however they end, are all rows of a strip of as many
 abbrev pub UncountedRowsAreAStrip : Type 0

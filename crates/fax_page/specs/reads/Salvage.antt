@@ -16,7 +16,7 @@ use Rattle.fax_page.specs.declared.StripForm.{StripForm}
 use Rattle.fax_bits.specs.Reading.{Read, read, failed}
 use Rattle.fax_page.specs.Lines.{NextOne, in_code, next_one, read_line, read_start, white_row}
 use Rattle.fax_page.specs.Salvage.{SalvagedRow, found, lost, resync_point, resync_from, unended}
-use Rattle.fax_page.specs.reads.Uncounted.{rows_end}
+use Rattle.fax_page.specs.Uncounted.{rows_end}
 
 -- why a row is lost that is coded over one that is: for the cause of that one
 abbrev pub cause_over : Option StripFault → Read Dimension StripFault → Option StripFault

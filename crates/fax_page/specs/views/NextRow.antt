@@ -25,7 +25,7 @@ IsNextRow old (Ok None) new = IsAtEnd old new
 IsNextRow old (Err fault) new = TellsAgain old fault new ⊎ MeetsFault old fault new
 
 -- the next row in a strip has these pels
-pub record IsDue (state : StripState) (pels : List Colour) : Type 0 where
+pub record IsUpcoming (state : StripState) (pels : List Colour) : Type 0 where
   pub no_fault : state.fault ≡ None
   pub upcoming : state.row < state.form.rows
   pub rest : List Bool

@@ -68,14 +68,14 @@ IsBefore width (Runs runs) row = (length row ≡ width) × (runs_of row ≡ runs
 
 -- before row i of the bytes, which are a reader's first, after so many bits, with this row before
 -- it; or there is no such place, or memory was refused
-abbrev pub IsBegunInside : StripForm → List ℕ → ℕ → ℕ → ReferenceRow
+abbrev pub IsStartedInside : StripForm → List ℕ → ℕ → ℕ → ReferenceRow
     → Result StripState PlaceFault → Type 0
-IsBegunInside form bytes i place before (Ok state) =
+IsStartedInside form bytes i place before (Ok state) =
     (place ≤ 8 * length bytes) × IsBefore form.width before state.reference
     × (state ≡ restarted_at (strip_beginning form bytes) bytes form.rows i place state.reference)
-IsBegunInside form bytes i place before (Err Outside) =
+IsStartedInside form bytes i place before (Err Outside) =
     place ≤ 8 * length bytes → (row : List Colour) → IsBefore form.width before row → ⊥
-IsBegunInside form bytes i place before (Err Memory) =
+IsStartedInside form bytes i place before (Err Memory) =
     (place ≤ 8 * length bytes) × (row : List Colour) × IsBefore form.width before row
 
 -- a count of rows and one more, up to the greatest number of 64 bits

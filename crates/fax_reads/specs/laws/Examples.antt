@@ -17,8 +17,8 @@ use Rattle.fax_page.specs.declared.StripFault.TheVariants.{DataEnds, BadCode, Ex
 use Rattle.fax_page.specs.declared.StripFault.TheVariants.{OutOfRow, MissingEol, EndMarker}
 use Rattle.fax_page.specs.declared.StripForm.{StripForm}
 use Rattle.fax_page.specs.Strip.{most_rows}
-use Rattle.fax_page.specs.reads.Lines.{StripRead, read_strip}
-use Rattle.fax_page.specs.reads.Uncounted.{rows_end}
+use Rattle.fax_page.specs.Strip.{StripRead, read_strip}
+use Rattle.fax_page.specs.Uncounted.{rows_end}
 
 -- the bits that a text spells, without its blanks (32), where 49 is the digit 1
 abbrev pub spelled : List ℕ → List Bool

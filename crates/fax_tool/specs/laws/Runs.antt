@@ -24,14 +24,14 @@ pub record IsRunOfRows (file : List ℕ) (long : Bool) (origin : WalkStart) (max
   pub cut_is : cut ≡ is_cut max lines
 
 -- the numbers of what a run begins with have 32 bits
-abbrev pub IsBegun : WalkStart → Type 0
-IsBegun (AtCursor at) = IsCursor at
-IsBegun (AtLongCursor place) = IsLongCursor place
+abbrev pub IsStartInRange : WalkStart → Type 0
+IsStartInRange (AtCursor at) = IsCursor at
+IsStartInRange (AtLongCursor place) = IsLongCursor place
 
 -- a run begins with what is read of the text that stands after these lines of rows and `next `, as
 -- the words of `rows` give it: a cursor, or a long one, of that text
 pub record IsReadAfter (rows output : List ℕ) (next : WalkStart) : Type 0 where
-  pub limits : IsBegun next
+  pub limits : IsStartInRange next
   pub is : output ≡ rows ++ next_line next
 
 -- Runs of `rows` over a file with these limits and then one with this limit, the first from what it

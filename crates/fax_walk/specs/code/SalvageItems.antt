@@ -16,7 +16,7 @@ use Rattle.fax_files.specs.declared.FileFault.TheVariants.{StripOutside}
 use Rattle.fax_files.specs.Page.{strip_form}
 use Rattle.fax_files.specs.views.Page.{IsPageForm}
 use Rattle.fax_files.specs.views.Tiff.{PageStrips, TiffDirectory, bytes_of, form_of}
-use Rattle.fax_page.specs.views.Strip.{IsStrip}
+use Rattle.fax_page.specs.laws.Lines.{IsStrip}
 use Rattle.fax_walk.specs.declared.salvage_rows.SalvagedPart.{SalvagedPart}
 use Rattle.fax_walk.specs.declared.salvage_rows.SalvagedPart.TheVariants.{Found, Lost}
 use Rattle.fax_walk.specs.Items.{exchanged}

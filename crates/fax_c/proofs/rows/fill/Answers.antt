@@ -41,7 +41,7 @@ place_after-requires-clause-told g c = λ some none.
     c.put_next.new.out c.cursor-cursor.result refl refl c.in-Err.ensures.put in
     let room = c.put_next.ensures.room (c.in-Err.is ∙ ap Err none) in
     after_of c.cursor-cursor.result c.loop-count.count c.bit_offset.new.place c.bit_offset.new.runs
-    (so_far.same_file ∙ sym walk.same_file) (so_far.same_begun ∙ sym walk.same_begun)
+    (so_far.same_file ∙ sym walk.same_file) (so_far.same_started ∙ sym walk.same_started)
     (c.bit_offset.ensures.told some (omega (arith, room)))
 
 pub returns-in-Err-clause-place : goal.returns-in-Err-clause-place
@@ -51,7 +51,7 @@ returns-in-Err-clause-place g c =
       kept_on _ _ _ (kept_on _ _ _ c.loop-count.invariant.kept c.bit_offset.ensures.kept) c.place_after.ensures.0,
       (λ none. c.place_after.ensures.1 none ∙ c.bit_offset.ensures.no_runs none ∙ c.loop-count.invariant.runs none),
       after_of c.cursor-cursor.result c.loop-count.count c.place_after.new.place c.place_after.new.runs walk.same_file
-          walk.same_begun c.place_after.ensures.2,
+          walk.same_started c.place_after.ensures.2,
     )
 
 pub returns-clause-place : goal.returns-clause-place
@@ -60,5 +60,5 @@ returns-clause-place g c =
       kept_on _ _ _ c.loop-count.invariant.kept c.place_after-2.ensures.0,
       (λ none. c.place_after-2.ensures.1 none ∙ c.loop-count.invariant.runs none),
       after_of c.cursor.result c.loop-count.count c.place_after-2.new.place c.place_after-2.new.runs so_far.same_file
-          so_far.same_begun c.place_after-2.ensures.2,
+          so_far.same_started c.place_after-2.ensures.2,
     )

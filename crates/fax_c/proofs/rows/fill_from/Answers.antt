@@ -1,7 +1,7 @@
 use Rattle.std.proofs.Common.{◌∙◌, inl, refl}
 use Rattle.fax_c.proofs.RowsWrittenLemmas.{refused_at_once}
 use Rattle.fax_c.proofs.PlaceLemmas.{start_cursor-origin_of, stays, takes_runs}
-use Rattle.fax_c.specs.views.Places.{place_begun}
+use Rattle.fax_c.specs.views.Places.{place_started}
 use Rattle.fax_c.proofs.rows.fill_from.Goals as goal
 
 pub returns-in_default : goal.returns-in_default
@@ -15,7 +15,7 @@ returns-in_default g c =
     inl (
       within,
       record { cursor = at; count = 0; used = 0; stop = stop },
-      refused_at_once g.F.RowFormat.numbers c.args.file.now (place_begun place runs) at c.args.rows.now c.args.out.now
+      refused_at_once g.F.RowFormat.numbers c.args.file.now (place_started place runs) at c.args.rows.now c.args.out.now
           begins stop c.beginnings_have_one_tail.ensures (λ page. takes_runs c.args.file.now place runs
           c.in_default.ensures (rw c.cursor-cursor.ensures at page)) c.stop_at_refusal-stop.ensures,
       ((refl, refl), (λ none. refl), stays c.args.file.now place runs at (c.in_default.ensures, within)),

@@ -1,5 +1,5 @@
 use Rattle.std.proofs.Common.{refl, inl, inr}
-use Rattle.fax_c.proofs.StripLemmas.{not_begun, refused_at}
+use Rattle.fax_c.proofs.StripLemmas.{not_started, refused_at}
 use Rattle.fax_c.proofs.strip_rows.reader_at.Goals as goal
 
 pub returns-in-Err-Memory : goal.returns-in-Err-Memory
@@ -14,6 +14,6 @@ returns-in-Err-Outside c =
     let none = rw c.in-Err-Outside.field-0-is at c.in-Err-Outside.ensures in
     inr (
       refl,
-      not_begun c.args.form c.args.strip.now c.args.place.now c.args.runs.now c.in-Some.before
+      not_started c.args.form c.args.strip.now c.args.place.now c.args.runs.now c.in-Some.before
           c.in-Some.ensures none,
     )

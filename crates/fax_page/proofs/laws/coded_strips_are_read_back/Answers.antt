@@ -1,5 +1,5 @@
 use Rattle.std.proofs.Common.{replicate, false, None, sym, subst}
-use Rattle.fax_page.specs.views.Strip.{IsStrip}
+use Rattle.fax_page.specs.laws.Lines.{IsStrip}
 use Rattle.fax_page.specs.Strip.{coded_bits, coded_strip}
 use Rattle.fax_page.proofs.laws.coded_strips_are_read_back.Goals as goal
 

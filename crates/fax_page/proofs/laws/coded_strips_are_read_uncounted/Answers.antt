@@ -1,6 +1,6 @@
 use Rattle.std.proofs.Common.{◌++◌, replicate, false, arith, sym, subst}
 use Rattle.fax_page.specs.Strip.{coded_bits, coded_strip}
-use Rattle.fax_page.specs.Uncounted.{IsUncounted}
+use Rattle.fax_page.specs.laws.Uncounted.{IsUncounted}
 use Rattle.fax_page.specs.laws.Uncounted.{written_end}
 use Rattle.fax_page.proofs.UncountedLaws.{written_is_uncounted}
 use Rattle.fax_page.proofs.WrittenLaws.{coded_lines_back}

@@ -1,6 +1,7 @@
 use Rattle.std.proofs.Common.{sym, ap, subst, arith}
 use Rattle.fax_bits.specs.Bits.{code_bits}
 use Rattle.fax_bits.specs.views.Source.{IsTaken, Source}
+use Rattle.fax_page.proofs.EndGraph.{is_may, may_of}
 use Rattle.fax_page.proofs.EndLemmas.{not_mmr}
 use Rattle.fax_page.proofs.MarkLemmas.{front_fits, may_have_mark, may_have_return}
 use Rattle.fax_page.proofs.MarkLemmas.{block_found, block_missing, front}
@@ -13,8 +14,10 @@ pub returns-in-Mh : goal.returns-in-Mh
 returns-in-Mh c =
     let other = not_mmr c.args.coding c.in-Mh.is in
     record {
-      may = λ is. may_have_mark c.args.coding _ other (c.may_be_return_to_control.ensures.may is);
-      never = λ is may. c.may_be_return_to_control.ensures.never is (may_have_return c.args.coding _ other may);
+      may = λ is. may_of c.args.coding _
+          (may_have_mark c.args.coding _ other (c.may_be_return_to_control.ensures.may is));
+      never = λ is may. c.may_be_return_to_control.ensures.never is
+          (may_have_return c.args.coding _ other (is_may c.args.coding _ may));
     }
 
 pub returns-in-Mmr-clause-may : goal.returns-in-Mmr-clause-may
@@ -22,8 +25,9 @@ returns-in-Mmr-clause-may c = λ is.
     let same = ap (λ (s : Source). s.remaining) (sym c.fork.ensures) in
     let taken = subst (λ t. IsTaken (code_bits c.min-bits.result (front c.min-bits.result)) c.fork.result.remaining t
     c.take.new.self.remaining) is c.take.ensures.taken in
-    block_found c.args.coding c.args.source.now.remaining _ c.take.new.self.remaining c.min-bits.result c.in-Mmr.is same
-    (omega arith) taken
+    may_of c.args.coding _
+    (block_found c.args.coding c.args.source.now.remaining _ c.take.new.self.remaining c.min-bits.result c.in-Mmr.is
+    same (omega arith) taken)
 
 pub returns-in-Mmr-clause-never : goal.returns-in-Mmr-clause-never
 returns-in-Mmr-clause-never c = λ is may.
@@ -32,4 +36,4 @@ returns-in-Mmr-clause-never c = λ is may.
     c.take.new.self.remaining) is c.take.ensures.taken in
     block_missing c.args.coding c.args.source.now.remaining _ c.take.new.self.remaining c.min-bits.result c.in-Mmr.is
     same
-    (omega arith) taken may
+    (omega arith) taken (is_may c.args.coding _ may)

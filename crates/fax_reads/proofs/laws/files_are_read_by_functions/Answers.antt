@@ -3,6 +3,5 @@ use Rattle.fax_reads.proofs.laws.files_are_read_by_functions.Goals as goal
 
 pub returns : goal.returns
 returns c =
-    files_graph c.strips_are_read_by_functions.ensures
-    c.bits_stand_by_index.ensures c.lines_are_read_in_one_way.ensures c.files_have_one_chain.ensures
+    files_graph c.bits_stand_by_index.ensures c.lines_are_read_in_one_way.ensures c.files_have_one_chain.ensures
     c.forms_are_whole.ensures

@@ -1,4 +1,7 @@
-use Rattle.std.proofs.Common.{◌∙◌, arith}
+use Rattle.std.proofs.Common.{◌≡◌, ◌∙◌, arith, subst, Ok}
+use Rattle.fax_bits.specs.Bits.{bits}
+use Rattle.fax_page.specs.declared.StripForm.{StripForm}
+use Rattle.fax_page.specs.Strip.{noted}
 use Rattle.std.proofs.lemmas.Result.{IfOk-weaker}
 use Rattle.fax_walk.specs.declared.checking.PageRead.{PageRead}
 use Rattle.fax_walk.proofs.StripCheckLemmas.{none_before, strip_after, all_read, strip_outside, row_inside, strip_fault}
@@ -39,12 +42,15 @@ returns-in-Err-notes c =
 
 pub loop-s-preserved : goal.loop-s-preserved
 loop-s-preserved c =
-    let (rows, noted) = c.in-Ok-notes.ensures.ok in
+    let b = c.in-Ok.bytes.now in
+    let found = c.in-Ok-notes.found in
+    let noted_so = subst (λ (f : StripForm). noted f (bits f.order b) ≡ Ok found) c.strip_form.ensures.exact
+    c.in-Ok-notes.ensures.ok in
     record {
       on = c.loop-s.invariant.on;
       checked =
-          strip_after _ _ _ c.loop-s.invariant.on _ _ _ _ c.in-Ok.bytes.now rows c.in-Ok-notes.found c.loop-s-test.true
-          c.loop-s.invariant.checked c.in-Ok.ensures.bytes (rw c.strip_form.ensures.exact at noted)
+          strip_after _ _ _ c.loop-s.invariant.on _ _ _ _ c.in-Ok.bytes.now c.in-Ok-notes.found c.loop-s-test.true
+          c.loop-s.invariant.checked c.in-Ok.ensures.bytes noted_so
           c.in_ok-note_strip-in-Ok-notes.ensures;
       same_width = c.in-Ok-notes.ensures.same_width ∙ c.loop-s.invariant.same_width;
     }

@@ -23,11 +23,11 @@ one_number {A} only n x y (all, end, is, there) (all', end', is', there') =
     cc
 
 -- the row that is lent is the next one
-lent_due : BeginningsHaveOneTail → (options : Options) (walk : WalkView) (output : Output) (last : LastRow)
+lent_upcoming : BeginningsHaveOneTail → (options : Options) (walk : WalkView) (output : Output) (last : LastRow)
     → IsLastOf walk (Some last)
     → (item : RowItem) (part : Part) → IsUpcomingItem options walk output item part
     → IsLentUpcoming options output last part × (item.pels ≡ last.row.now)
-lent_due tails options walk output last (before, lent, yielded, number, is, form, limits) item part upcoming =
+lent_upcoming tails options walk output last (before, lent, yielded, number, is, form, limits) item part upcoming =
     let there = subst (λ (n : ℕ). IsItemNumber walk.file walk.origin n item) (omega (arith, yielded, upcoming.yielded))
     upcoming.number
     in
@@ -40,10 +40,11 @@ lent_due tails options walk output last (before, lent, yielded, number, is, form
 pub put_lent-requires-clause-upcoming : goal.put_lent-requires-clause-upcoming
 put_lent-requires-clause-upcoming c =
     let (item, part, is) = c.requires.upcoming in
-    (part, (lent_due c.beginnings_have_one_tail.ensures _ _ _ c.in-Some.last c.in-Some.ensures item part is).0)
+    (part, (lent_upcoming c.beginnings_have_one_tail.ensures _ _ _ c.in-Some.last c.in-Some.ensures item part is).0)
 
 pub returns : goal.returns
 returns c = on_ok c.put_lent.result c.put_lent.ensures (λ puts item part is.
-    let (lent, pels) = lent_due c.beginnings_have_one_tail.ensures _ _ _ c.in-Some.last c.in-Some.ensures item part is
+    let (lent, pels) = lent_upcoming c.beginnings_have_one_tail.ensures _ _ _ c.in-Some.last c.in-Some.ensures item part
+    is
     in
     rw pels (puts part lent))

@@ -7,5 +7,5 @@ returns c =
     record {
       conversions = bytes_are_converted_in_one_way c.images_are_read_in_one_way.ensures c.form_tails_are_one.ensures.all
           items;
-      reports = files_have_one_report c.strips_are_read_in_one_way.ensures c.strips_are_noted_in_one_way.ensures items;
+      reports = files_have_one_report items;
     }

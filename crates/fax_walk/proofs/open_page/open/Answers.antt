@@ -1,5 +1,5 @@
 use Rattle.std.proofs.Common.{sym}
-use Rattle.fax_walk.proofs.OpenPageLemmas.{due_there, refused_strip}
+use Rattle.fax_walk.proofs.OpenPageLemmas.{upcoming_there, refused_strip}
 use Rattle.fax_walk.proofs.open_page.open.Goals as goal
 
 pub returns-in-Err-clause-refused : goal.returns-in-Err-clause-refused
@@ -13,13 +13,13 @@ returns-in-Err-clause-refused c =
     c.upcoming.invariant.limits there outside)
 
 pub returns-in-Err-clause-there : goal.returns-in-Err-clause-there
-returns-in-Err-clause-there c = rw (← c.upcoming.view_is) (due_there _ _ _ _ c.upcoming.invariant.its)
+returns-in-Err-clause-there c = rw (← c.upcoming.view_is) (upcoming_there _ _ _ _ c.upcoming.invariant.its)
 
 pub returns-in_err-strip-clause-there : goal.returns-in_err-strip-clause-there
-returns-in_err-strip-clause-there c = rw (← c.upcoming.view_is) (due_there _ _ _ _ c.upcoming.invariant.its)
+returns-in_err-strip-clause-there c = rw (← c.upcoming.view_is) (upcoming_there _ _ _ _ c.upcoming.invariant.its)
 
 pub returns-in_err-exchanged-clause-there : goal.returns-in_err-exchanged-clause-there
-returns-in_err-exchanged-clause-there c = rw (← c.upcoming.view_is) (due_there _ _ _ _ c.upcoming.invariant.its)
+returns-in_err-exchanged-clause-there c = rw (← c.upcoming.view_is) (upcoming_there _ _ _ _ c.upcoming.invariant.its)
 
 pub returns-clause-there : goal.returns-clause-there
-returns-clause-there c = rw (← c.upcoming.view_is) (due_there _ _ _ _ c.upcoming.invariant.its)
+returns-clause-there c = rw (← c.upcoming.view_is) (upcoming_there _ _ _ _ c.upcoming.invariant.its)

@@ -6,7 +6,7 @@ pub advance_search-self-inside-requires-clause-next_at : goal.advance_search-sel
 advance_search-self-inside-requires-clause-next_at c =
     let next_at = rw (← c.self.view_is, c.in-Some.is) at c.in_ok-answer.ensures.answer in
     (one_more c.self.inside.tiff _ _ c.self.invariant.offset c.in-Some.directory next_at _
-    c.next_offset-next_at.ensures).due_is
+    c.next_offset-next_at.ensures).upcoming_is
 
 pub advance_search-self-inside-requires-clause-few : goal.advance_search-self-inside-requires-clause-few
 advance_search-self-inside-requires-clause-few c =

@@ -30,4 +30,6 @@ loop-i-preserved c =
 pub returns-clause-ok : goal.returns-clause-ok
 returns-clause-ok c =
     let all : c.loop-i.i ≡ c.args.form.rows = omega arith in
-    all_noted _ _ _ _ _ _ _ all c.loop-i.invariant.read c.notes_after.ensures
+    all_noted c.one_dimensional_rows_are_read_back.ensures c.two_dimensional_rows_are_read_back.ensures
+    c.lines_are_read_in_one_way.ensures c.args.form _ _ _ _ _ _ c.requires.limits all c.loop-i.invariant.read
+    c.notes_after.ensures

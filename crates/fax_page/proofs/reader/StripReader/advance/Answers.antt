@@ -10,7 +10,7 @@ invariant_of-self c =
       limits = c.self.invariant.limits;
       width = search rules;
       count = search rules;
-      begun_before = search rules;
+      started_before = search rules;
       within = search rules;
       placed =
           placed_after c.self.inside.form _ _ _ _ _ _ _ _ count c.self.invariant.placed (c.self.invariant.at_row

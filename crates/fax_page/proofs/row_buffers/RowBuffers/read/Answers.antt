@@ -2,7 +2,7 @@ use Rattle.std.proofs.Common.{◌≡◌, List, length, refl, subst, ap, sym, ◌
 use Rattle.fax_bits.specs.declared.Colour.{Colour}
 use Rattle.fax_bits.specs.Reading.{read}
 use Rattle.fax_page.specs.Lines.{read_codes}
-use Rattle.fax_page.proofs.FirstCodeLemmas.{line_begun}
+use Rattle.fax_page.proofs.FirstCodeLemmas.{line_started}
 use Rattle.fax_page.proofs.row_buffers.RowBuffers.read.Goals as goal
 
 pub returns-then-take_white-clause-ok : goal.returns-then-take_white-clause-ok
@@ -13,7 +13,7 @@ returns-then-take_white-clause-ok c =
     let rest = c.take_white.new.source.remaining in
     let coded = subst (λ (r : List Colour). read_codes dimension (length r) r codes ≡ read r rest) c.reference.ensures
     (c.if-take_white.ensures.row refl) in
-    line_begun c.args.form c.args.i row row c.args.source.now.remaining codes rest dimension c.requires.some_pels
+    line_started c.args.form c.args.i row row c.args.source.now.remaining codes rest dimension c.requires.some_pels
     c.in-Ok.ensures.read
     (ap (λ n. read_codes dimension n row codes) (sym c.requires.width) ∙ coded)
 
@@ -24,7 +24,7 @@ returns-in-Ok-read_codes-clause-ok c =
     let row = c.read_codes.new.self in
     let rest = c.read_codes.new.source.remaining in
     let coded = rw (c.if-take_white.ensures.unchanged refl) at c.in-Ok-read_codes.ensures.read in
-    line_begun c.args.form c.args.i reference row c.args.source.now.remaining c.read_start.new.source.remaining rest
+    line_started c.args.form c.args.i reference row c.args.source.now.remaining c.read_start.new.source.remaining rest
     dimension
     c.requires.some_pels c.in-Ok.ensures.read
     (ap (λ n. read_codes dimension n reference c.read_start.new.source.remaining) (sym c.requires.width) ∙ coded)

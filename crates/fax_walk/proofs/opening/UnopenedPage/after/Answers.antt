@@ -1,5 +1,5 @@
 use Rattle.std.proofs.Common.{◌≡◌, Ok, ap, ◌∙◌, arith}
-use Rattle.fax_walk.proofs.EndingLemmas.{page_due, proper_end_at, row_past, fault_before_page, fields_refused}
+use Rattle.fax_walk.proofs.EndingLemmas.{page_upcoming, proper_end_at, row_past, fault_before_page, fields_refused}
 use Rattle.fax_walk.proofs.EndingLemmas.{same_file}
 use Rattle.fax_walk.proofs.opening.UnopenedPage.after.Goals as goal
 
@@ -7,7 +7,7 @@ pub invariant_of-result : goal.invariant_of-result
 invariant_of-result c = record {
   its =
       rw (c.yielded-page.ensures, c.in-Ok.ensures.directory)
-      (page_due _ _ c.args.chain c.next.result c.requires c.next.ensures.answer _
+      (page_upcoming _ _ c.args.chain c.next.result c.requires c.next.ensures.answer _
       (c.in-Ok-Some.is ∙ ap Ok c.in-Ok-Some.field-0-is) _ c.in-Ok.form c.next.ensures.counted c.in-Ok.ensures.form);
   form_is = rw c.in-Ok.ensures.directory c.in-Ok.ensures.form;
   limits = c.in-Ok.ensures.limits;

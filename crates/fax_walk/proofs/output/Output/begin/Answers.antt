@@ -1,7 +1,7 @@
 use Rattle.std.proofs.Common.{◌≡◌, ◌*◌, length, ap, arith, length-append}
 use Rattle.fax_rows.specs.Coded.{packed_len}
 use Rattle.fax_files.specs.views.Pbm.{head_bytes}
-use Rattle.fax_walk.proofs.OutputLemmas.{image_too_large, image_begun}
+use Rattle.fax_walk.proofs.OutputLemmas.{image_too_large, image_started}
 use Rattle.fax_walk.proofs.output.Output.begin.Goals as goal
 
 pub returns-then-saturating_add-gt-MAX_OUTPUT : goal.returns-then-saturating_add-gt-MAX_OUTPUT
@@ -39,7 +39,7 @@ returns-else-saturating_add-gt-MAX_OUTPUT c = λ at upcoming.
     record {
       widths = tt;
       has =
-          image_begun at c.args.sheet.now c.in-Images.parts c.put_head.new.self has c.in_ok-put_head-in-Images.ensures
+          image_started at c.args.sheet.now c.in-Images.parts c.put_head.new.self has c.in_ok-put_head-in-Images.ensures
           (omega (
             arith,
             c.if-saturating_add-gt-MAX_OUTPUT.false,

@@ -1,9 +1,9 @@
-use Rattle.fax_walk.proofs.SalvageRowLemmas.{before_rows, begun_in_page}
+use Rattle.fax_walk.proofs.SalvageRowLemmas.{before_rows, started_in_page}
 use Rattle.fax_walk.proofs.salvage_rows.SalvageRows.begin.Goals as goal
 
 pub invariant_of-result : goal.invariant_of-result
 invariant_of-result c =
-    begun_in_page c.args.strips c.args.form _ _ _ c.requires.form c.requires.limits c.requires.count
+    started_in_page c.args.strips c.args.form _ _ _ c.requires.form c.requires.limits c.requires.count
     c.bytes_left-whole.ensures.bytes (rw c.strip_form.ensures.exact at c.in_ok-reader.ensures)
 
 pub returns : goal.returns

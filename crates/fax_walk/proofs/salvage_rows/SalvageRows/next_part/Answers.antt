@@ -12,7 +12,7 @@ returns-in_default c =
 
 pub invariant_of-self-2 : goal.invariant_of-self-2
 invariant_of-self-2 c =
-    read_in_page _ _ _ _ _ _ c.self.invariant c.due_rows_stand_in_strips.ensures _ _ _ c.in-Some.ensures
+    read_in_page _ _ _ _ _ _ c.self.invariant c.upcoming_rows_stand_in_strips.ensures _ _ _ c.in-Some.ensures
     (elim c.if-self.branch [
       | then-self w ↦ λ is. (w.if-self.true, sym w.is_found-self-inside.ensures ∙ sym w.self-is ∙ is)
       | else-self w ↦ λ is. let apart : false ≡ true = sym w.if-self.false ∙ sym w.self-is ∙ is in cc

@@ -1,5 +1,5 @@
 use Rattle.std.proofs.Common.{refl}
-use Rattle.fax_walk.proofs.SalvagePlaceLemmas.{due_fits, place_here, place_next}
+use Rattle.fax_walk.proofs.SalvagePlaceLemmas.{upcoming_fits, place_here, place_next}
 use Rattle.fax_walk.proofs.salvage_rows.SalvageRows.place.Goals as goal
 
 pub returns-then-row-strip_form : goal.returns-then-row-strip_form
@@ -11,7 +11,7 @@ pub overflow_sub-bits : goal.overflow_sub-bits
 overflow_sub-bits c =
     let not_gone = rw (c.row.ensures, c.strip_form.ensures.exact) at c.if-row-strip_form.false in
     rw c.bits_remaining.ensures
-    (due_fits _ _ _ _ _ _ c.self.invariant _ _ not_gone c.bytes_left-whole.ensures.bytes
+    (upcoming_fits _ _ _ _ _ _ c.self.invariant _ _ not_gone c.bytes_left-whole.ensures.bytes
     c.bits_stand_by_index.ensures.count)
 
 pub returns : goal.returns

@@ -17,10 +17,10 @@ pub one_start : (coding : Coding) (i : ℕ) (b : List Bool) (start another : Rea
     → IsStart coding i b start → IsStart coding i b another → start ≡ another
 one_start coding i b start another first second = sym first ∙ second
 
-pub one_begun : (coding : Coding) (i : ℕ) (b : List Bool) (dimension another : Dimension) (codes others : List Bool)
+pub one_started : (coding : Coding) (i : ℕ) (b : List Bool) (dimension another : Dimension) (codes others : List Bool)
     → IsStart coding i b (read dimension codes) → IsStart coding i b (read another others)
     → (dimension ≡ another) × (codes ≡ others)
-one_begun coding i b dimension another codes others first second = (cc (first, second), cc (first, second))
+one_started coding i b dimension another codes others first second = (cc (first, second), cc (first, second))
 
 -- codes that stop
 pub stop_is : (dimension : Dimension) (width : ℕ) (reference : List Colour) (b : List Bool) (cause : RowFault)

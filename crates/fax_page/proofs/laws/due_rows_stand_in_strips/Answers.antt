@@ -1,5 +1,0 @@
-use Rattle.fax_page.proofs.SalvagePlaceLaws.{due_rows_stand}
-use Rattle.fax_page.proofs.laws.due_rows_stand_in_strips.Goals as goal
-
-pub returns : goal.returns
-returns c = due_rows_stand c.lines_are_read_in_one_way.ensures
