@@ -7,6 +7,7 @@ import os
 import random
 import re
 import shutil
+import signal
 import sqlite3
 
 import faxpages
@@ -23,13 +24,13 @@ DRAWS = 120
 SAID = "t.sqlite is damaged: "
 
 
-def made(place: str, *words: str) -> None:
+def made(place: str, *words: str, names: list[str] | None = None) -> None:
     """Faxes, of which some have been deleted after they were copied, and a table of those that are there."""
     shutil.rmtree(place, ignore_errors=True)
     for name in NAMES[:6]:
         put(f"{place}/tree/{name}", drawn()[""], mtime=TIME)
     playing.run(words_of(place, "--delete", *words), place, playing.Trouble())
-    for name in NAMES[6:]:
+    for name in (names or NAMES)[6:]:
         put(f"{place}/tree/{name}", drawn()[""], mtime=TIME)
     playing.run(words_of(place, *words), place, playing.Trouble())
 
@@ -187,4 +188,79 @@ def other_paths(room: Room, *_given: object) -> None:
     room.claim("the path stands in four tables and their indexes", count >= 8)
 
 
-PARTS: list[Part] = [believed, one_value, renewed, unreadable, other_paths]
+def header(room: Room, *_given: object) -> None:
+    """Each bit of what says which version a table is of, and how it is written, is found where it has turned, or changes
+    nothing."""
+    place = room("damaged-header")
+    made(place)
+    table, rows = f"{place}/t.sqlite", all_of(f"{place}/t.sqlite")
+    with open(table, "rb") as file:
+        whole = file.read()
+    said = 0
+    for bit in [8 * byte + bit for byte in (18, 19, *range(60, 64)) for bit in range(8)]:
+        data = bytearray(whole)
+        data[bit // 8] ^= 1 << bit % 8
+        with open(table, "wb") as file:
+            file.write(data)
+        ran = playing.run(words_of(place), place, playing.Trouble())
+        if ran.status == 3 and any(it in ran.error for it in ("is damaged: ", "another program, or of a later version")):
+            said += 1
+            error = playing.run(["table", table, "--csv"], place, playing.Trouble()).error
+            room.claim(f"header, bit {bit}, as table says it: {error}", "makes it one" in error, False)
+            continue
+        with contextlib.suppress(sqlite3.Error):
+            room.claim(f"header, bit {bit}: {ran.error}", (ran.status, all_of(table) == rows), (0, True))
+    room.claim("what is said of headers", said > 30)
+
+
+def of_itself(room: Room, *_given: object) -> None:
+    """What a table says of itself, and of its last run, is not believed where it has turned, in the table or in its
+    index alone."""
+    place = room("damaged-itself")
+    made(place)
+    verify(place)
+    copy = f"{place}/copy.sqlite"
+    with contextlib.closing(sqlite3.connect(f"{place}/t.sqlite")) as base:
+        names = [str(name) for (name,) in base.execute("SELECT name FROM job")]
+    room.claim("what a table says of itself", {"job", "table", "where", "only", "verification", "sum"} <= set(names))
+    for statement in (*(f"UPDATE job SET value = value || ' ' WHERE name = '{name}'" for name in names),
+                      *(f"DELETE FROM job WHERE name = '{name}'" for name in names if name != "sum"),
+                      "UPDATE runs SET number = number + 1 WHERE number = (SELECT max(number) FROM runs)",
+                      "UPDATE runs SET ended = NULL", "UPDATE runs SET words = '[]'"):
+        shutil.copy(f"{place}/t.sqlite", copy)
+        with contextlib.closing(sqlite3.connect(copy)) as base:
+            base.execute(statement)
+            base.commit()
+        status, _, error = room.run("table", copy, "--csv")
+        room.claim(f"{statement}: {error}", (status, "copy.sqlite is damaged: " in error), (3, True))
+    count = found_at_each(room, "damaged-job", rb"only(?!_)", 1, 0x08)
+    room.claim("its names stand in the table and in its index", count >= 2)
+
+
+def renewed_amid(room: Room, *_given: object) -> None:
+    """--renew that is killed at each call, and then done again, knows all that it had known at once: whose the copies
+    are, and which are the only ones."""
+    _, other = two()
+    place = room("renewed-amid")
+    made(place, names=NAMES[:8])
+    hurt(f"{place}/t.sqlite", "many rows")
+    os.rename(place, f"{place}-before")
+    wrong, at = [], 0
+    for at in range(1, 200, 2):
+        shutil.rmtree(place, ignore_errors=True)
+        shutil.copytree(f"{place}-before", place)
+        first = playing.run(words_of(place, "--renew"), place, playing.Trouble(at, kill=signal.SIGKILL))
+        put(f"{place}/tree/7.tif", other)
+        ran = playing.run(words_of(place, "--renew"), place, playing.Trouble())
+        only = verify(place)
+        with open(f"{place}/copies/7.tif", "rb") as file:
+            same = file.read() == faxpages.convert(other, "mmr")
+        left = [name for name in os.listdir(place) if "-new" in name or "-damaged-" in name]
+        if (ran.status, only.status, only.out.partition(":")[0], same, left) != (0, 0, "only copies 6", True, []):
+            wrong.append((at, ran, only, left))
+        if first.status != -signal.SIGKILL or len(wrong) > 2:
+            break
+    room.claim(f"--renew is killed at each of {at} calls", (wrong, 60 < at < 199), ([], True))
+
+
+PARTS: list[Part] = [believed, one_value, renewed, unreadable, other_paths, header, of_itself, renewed_amid]

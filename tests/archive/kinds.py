@@ -100,7 +100,7 @@ def make_older(table: str) -> None:
         base.execute("DELETE FROM job WHERE name IN ('only', 'parts')")
         for table in ("originals", "only_copies"):
             base.execute(f"DROP TABLE IF EXISTS {table}")
-        base.execute("DELETE FROM job WHERE name IN ('only copies', 'verification')")
+        base.execute("DELETE FROM job WHERE name IN ('only copies', 'verification', 'sum')")
         base.execute("PRAGMA user_version = 2")
         base.commit()
 

@@ -18,6 +18,7 @@ from tests.archive.keeping import put
 from tests.archive.older import only_copies
 from tests.archive.only import MARKS, refused, two, words_of
 from tests.archive.room import Part, Room
+from tests.archive.verifying import verify
 
 NAME = "b.tif"
 # With the ending of the mark beside it, it is longer than a name may be.
@@ -94,6 +95,8 @@ def not_replaced(room: Room, *_given: object) -> None:
         fault = "NoMark" if way == "it cannot be marked" else "Exists"
         row = told(room, place)[0]["b.tif"]
         room.claim(f"another fax, {way}: {ran.error}", (ran.status, same, row[1]), (3, True, fault))
+    only = verify(place).out.partition(":")[0]
+    room.claim("it is looked at as an only copy, once it is marked", only, "only copies 3")
 
 
 def long_name(room: Room, *_given: object) -> None:

@@ -13,7 +13,7 @@ import sqlite3
 from typing import Callable
 
 import faxpages
-from tests.archive.drawn import playing
+from tests.archive.drawn import contents, playing
 from tests.archive.keeping import TIME, drawn, put
 from tests.archive.kinds import make_older
 from tests.archive.only import MARKS, refused, two, words_of
@@ -244,6 +244,45 @@ def merged(room: Room, fax: bytes, wrong: bytes) -> None:
         room.claim("one digest", base.execute("SELECT count(*) FROM originals").fetchone(), (1,))
 
 
+def turned_before_delete(room: Room, *_given: object) -> None:
+    """A fax whose bits have turned since it was read is not deleted, also where its rows and its fields are as those of
+    its copy, and is named."""
+    fax = contents.with_field(drawn()[""], 270, b"a description\0")
+    wrong = fax.replace(b"a description", b"a descriptioo")
+    for words in (list[str](), ["--give-up", "fields"]):
+        place = room(f"turned-deleted-{len(words)}")
+        for name in NAMES:
+            put(f"{place}/tree/{name}", fax, mtime=TIME)
+        given = words_of(place, *([] if words else ["--fields"]))
+        playing.run(given, place, playing.Trouble())
+        put(f"{place}/tree/b.tif", wrong, mtime=TIME)
+        ran = playing.run([*given, "--delete", *words], place, playing.Trouble())
+        room.claim(f"{words}: {ran.error}", (ran.status, os.listdir(f"{place}/tree"), "Changed: b.tif: it has other bytes" in
+                   ran.error), (3, ["b.tif"], True))  # fmt: skip
+        told = json.loads(room.run("table", f"{place}/t.sqlite", "--summary")[1])
+        room.claim("it is counted", told["stays"], {"Changed": 1})
+
+
+def not_opened(room: Room, *_given: object) -> None:
+    """A folder of copies that may not be opened is named, and nothing is said of the copies."""
+    if os.geteuid() != 0:
+        print("SKIPPED: only root can be another user, so: no folder of copies that may not be opened is tried")
+        return
+    place = room("verified-closed")
+    kept(place)
+    for folder, folders, names in os.walk(place):
+        for name in (".", *folders, *names):
+            os.chown(os.path.join(folder, name), playing.OTHER, playing.OTHER)
+    os.chmod(f"{place}/copies", 0)
+    before = os.stat(room.folder).st_mode
+    os.chmod(room.folder, 0o755)
+    ran = verify(place, "--names", trouble=playing.Trouble(other_user=True))
+    os.chmod(room.folder, before & 0o777)
+    room.claim("closed", (ran.status, ran.out, ran.error.count("\n"), f"{place}/copies: Permission denied" in ran.error), (
+        3, "", 1, True))  # fmt: skip
+    room.claim("nothing is said of them", figures(room, place), {"good": 0, "NotVerified": 3})
+
+
 def stays(room: Room, *_given: object) -> None:
     """Faxes that stay though they were to be deleted are counted, by the reason, and named."""
     place = room("stays")
@@ -261,4 +300,5 @@ def stays(room: Room, *_given: object) -> None:
         ["path", "b.tif"]))  # fmt: skip
 
 
-PARTS: list[Part] = [verified, verified_fields, only_ones, verified_amid, verified_older, turned, stays]
+PARTS: list[Part] = [verified, verified_fields, only_ones, verified_amid, verified_older, turned, turned_before_delete,
+                     not_opened, stays]

@@ -9,7 +9,7 @@ import sys
 import time
 import urllib.parse
 import zlib
-from typing import Any, Iterable, List, Optional, Set, Union
+from typing import Any, Iterable, List, Optional, Set, Tuple, Union
 
 from . import _files as files
 from ._fax import FAULTY, OTHER, Found
@@ -79,6 +79,8 @@ PUT_COPY = "INSERT OR REPLACE INTO copies VALUES (?, ?, ?, ?, ?, ?, ?, ?, ?)"
 # What SQLite says of a database with tables or texts that are none.
 _OF_DAMAGE = ("no such", "decode", "user-defined", "malformed")
 _BEGINNING = b"SQLite format 3\0"
+# Where a database says by which journal it is written.
+_WAY = 18
 
 Path = Union[str, bytes]
 
@@ -142,6 +144,7 @@ class Database:
 
     def _read_as_it_stands(self) -> None:
         """Has a table of an earlier version be read."""
+        self._refuse_foreign()
         if self._format() not in (_BEFORE, _BEFORE_DIGESTS, _FORMAT):
             raise TableError(f"{self.name} is none of this version's tables; a run of check or convert makes it one")
         if self._format() != _FORMAT:
@@ -154,8 +157,10 @@ class Database:
         try:
             (said,) = self._base.execute("PRAGMA quick_check(1)").fetchone()
             damage = [] if said == "ok" else [str(said).replace("\n", " ")]
-            if not damage and self._format() == _FORMAT:
-                damage = self._damaged_rows()
+            if not damage and not _may_be_written(self.name):
+                damage = ["it says that it cannot be written"]
+            if not damage:
+                damage = self._damaged_rows() if self._format() == _FORMAT else self._not_of_its_version()
         except UnicodeDecodeError:
             # SQLite names what it cannot read, by bytes that Python cannot show.
             damage = ["what says which tables it has is no text"]
@@ -168,8 +173,18 @@ class Database:
         if damage:
             raise Damaged(f"{self.name} is damaged: {damage[0]}")
 
+    def _not_of_its_version(self) -> List[str]:
+        """What is said of a table of an earlier version that has what only a later one kept; nothing where it has not."""
+        later = {0: "copies", _BEFORE: "originals", _BEFORE_DIGESTS: "originals"}.get(self._format())
+        found = self._base.execute("SELECT 1 FROM sqlite_master WHERE name = ?", (later,)).fetchone()
+        return ["its version is another one than it was written by"] if found is not None else []
+
     def _damaged_rows(self) -> List[str]:
         """What is said of rows that are not as they were written; nothing where all are."""
+        (noted,) = self._base.execute("SELECT max(value) FROM job NOT INDEXED WHERE name = 'sum'").fetchone()
+        by_index = {name: self._value(name) for name, _ in self._job()}
+        if noted not in (None, str(self._sum_of_job())) or by_index != dict(self._job()):
+            return ["what it says of itself is not as it was written"]
         for rows in (f"{_JOINED} WHERE originals.sum IS NOT {_SUM}",
                      *(f"{name} NOT INDEXED WHERE path NOT IN (SELECT path FROM faxes)"
                        for name in ("times", "copies", "originals")),
@@ -181,6 +196,15 @@ class Database:
                 name = ascii(text_of(bytes_of(path)))[1:-1]
                 return [f"{count} of its rows are not as they were written, as that of {name}"]
         return []
+
+    def _job(self) -> List[Tuple[str, str]]:
+        """What the table says of itself, but for the sum of it."""
+        return [(str(name), str(value)) for name, value in self._base.execute(
+            "SELECT name, value FROM job NOT INDEXED WHERE name != 'sum' ORDER BY +name")]
+
+    def _sum_of_job(self) -> int:
+        """The sum of what the table says of itself, and of its last run."""
+        return sum_of(*self._job(), *self._base.execute("SELECT * FROM runs ORDER BY number DESC LIMIT 1"))
 
     def touch(self, paths: Iterable[Path]) -> None:
         """Notes that these rows change, so that their sums are made anew before they are committed."""
@@ -213,16 +237,16 @@ class Database:
     def _format(self) -> int:
         return int(self._base.execute("PRAGMA user_version").fetchone()[0])
 
-    def _is_foreign(self) -> bool:
-        """Whether there are tables already, and these are not those of an archive."""
+    def _refuse_foreign(self) -> None:
+        """Refuses a database whose tables are not those of an archive, or of a version that is not known."""
         tables = {str(name) for (name,) in self._base.execute("SELECT name FROM sqlite_master")}
         known = self._format() in (0, _BEFORE, _BEFORE_DIGESTS, _FORMAT)
-        return not known or bool(tables) and not {"faxes", "times", "job"} <= tables
+        if not known or tables and not {"faxes", "times", "job"} <= tables:
+            raise TableError(f"{self.name} is a database of another program, or of a later version, and stays as it is")
 
     def _make(self) -> None:
         """Makes the tables, and brings those of an earlier version up to date."""
-        if self._is_foreign():
-            raise TableError(f"{self.name} is a database of another program, or of a later version, and stays as it is")
+        self._refuse_foreign()
         self._base.executescript(_TEMPORARY)
         if self._format() == _FORMAT:
             return
@@ -300,6 +324,7 @@ class Database:
             return True
         if self._touched:
             self._make_sums()
+        self._base.execute("INSERT OR REPLACE INTO job VALUES ('sum', ?)", (str(self._sum_of_job()),))
         try:
             self._base.execute(f"PRAGMA busy_timeout = {int(_WAIT * 1000)}")
             self._base.execute("COMMIT")
@@ -345,6 +370,16 @@ def _is_database(name: str) -> bool:
             return file.read(len(_BEGINNING)) == _BEGINNING
     except OSError:
         return False
+
+
+def _may_be_written(name: str) -> bool:
+    """Whether a file says that SQLite may write to it, by a rollback journal or by another one."""
+    try:
+        with open(name, "rb") as file:
+            head = file.read(_WAY + 1)
+            return len(head) <= _WAY or head[_WAY] in (1, 2)
+    except OSError:
+        return True
 
 
 def address(name: str, new: bool) -> str:

@@ -224,6 +224,8 @@ class Job(NamedTuple):
         """A good row of a fax whose copy has its rows, and which is as it was found; else one that says why not."""
         if now != fax:
             return Done(not_read(fax, "Changed"))
+        if fax.digest and hashlib.sha256(data).digest() != fax.digest:
+            return Done(not_read(fax, "Changed", _TURNED))
         fields, fields_seen = None, None
         try:
             with self.target_root().place(self.copy_of(fax.path)) as place:

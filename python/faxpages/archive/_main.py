@@ -56,11 +56,9 @@ def _opened(words: argparse.Namespace, job: Job) -> Table:
             raise TableError(f"{error}; --renew makes it anew, and keeps this one") from None
         from . import _renewing as renewing  # nothing else needs it
 
-        aside = renewing.keep_aside(words.table)
+        aside = renewing.renew(words.table, job)
         say(f"{shown(str(error))}; it is kept as {shown(aside)}, and its faxes are done again")
-        table = Table(words.table)
-        renewing.take_over(table, aside, job)
-        return table
+        return Table(words.table)
 
 
 def _do_table(words: argparse.Namespace) -> int:

@@ -1,38 +1,88 @@
 """Makes a table that is damaged anew: the old one is kept, and what of it can be read, and the marks at the copies, say
-whose the copies are and which are the only ones. Its faxes are done again."""
+whose the copies are and which are the only ones. Its faxes are done again. The new one is made beside it, and has its
+place once it knows all that: a run that is killed leaves the one or the other."""
 
 from __future__ import annotations
 
 import contextlib
+import errno
 import json
 import os
+import shutil
 import sqlite3
 from typing import Any, Iterator, List, Set, Tuple
 
 from . import _files as files
-from ._database import ONLY_SUM, address, sum_of
+from ._database import ONLY_SUM, TableError, address, sum_of
 from ._fax import FIELDS, Job
 from ._run import say
 from ._table import Table
 
 
-def keep_aside(name: str) -> str:
-    """Gives a damaged table another name, over nothing: which one."""
-    number = 1
-    while True:
-        aside = f"{name}-damaged" + (f"-{number}" if number > 1 else "")
-        if not any(os.path.lexists(aside + end) for end in ("", "-journal")):
-            break
-        number += 1
-    for end in ("-journal", ""):
-        if os.path.lexists(name + end):
-            os.rename(name + end, aside + end)
+def renew(name: str, job: Job) -> str:
+    """Makes a damaged table anew: under which name the old one is kept."""
+    name = os.path.realpath(name)
+    new = f"{name}-new"
+    try:
+        lock = files.lock(f"{name}-lock")
+    except BlockingIOError:
+        raise TableError(f"another run writes to {name}") from None
+    with lock:
+        _drop(new)
+        with Table(new) as table:
+            _take_over(table, name, job)
+        os.unlink(f"{new}-lock")
+        aside = _keep_aside(name)
+        os.replace(new, name)
+        folder = os.open(os.path.dirname(name), os.O_RDONLY)
+        try:
+            os.fsync(folder)
+        finally:
+            os.close(folder)
     return aside
 
 
-def take_over(table: Table, aside: str, job: Job) -> None:
+def _drop(new: str) -> None:
+    """Takes away what a run has left which was killed while it made a table anew."""
+    for end in ("", "-journal", "-lock"):
+        with contextlib.suppress(FileNotFoundError):
+            os.unlink(new + end)
+
+
+def _keep_aside(name: str) -> str:
+    """Gives a damaged table another name too, over nothing: which one."""
+    number = 1
+    while True:
+        aside = f"{name}-damaged" + (f"-{number}" if number > 1 else "")
+        try:
+            _link(name, aside)
+            break
+        except FileExistsError:
+            if os.path.samestat(os.lstat(name), os.lstat(aside)):
+                break
+        number += 1
+    # What SQLite would put back into the new table.
+    with contextlib.suppress(FileNotFoundError):
+        os.replace(f"{name}-journal", f"{aside}-journal")
+    return aside
+
+
+def _link(name: str, aside: str) -> None:
+    """A second name for a file, or a copy where the file system has no links."""
+    try:
+        os.link(name, aside)
+    except OSError as error:
+        if error.errno not in (errno.EPERM, errno.EOPNOTSUPP, errno.ENOSYS, errno.EMLINK):
+            raise
+        with open(name, "rb") as old, open(aside, "xb") as copy:
+            shutil.copyfileobj(old, copy)
+            copy.flush()
+            os.fsync(copy.fileno())
+
+
+def _take_over(table: Table, damaged: str, job: Job) -> None:
     """Takes over what can be read of a damaged table, and what the marks at copies say."""
-    with contextlib.closing(sqlite3.connect(address(aside, False), uri=True)) as base:
+    with contextlib.closing(sqlite3.connect(address(damaged, False), uri=True)) as base:
         base.create_function("row_sum", -1, sum_of, deterministic=True)
         parts = _numbers(base)
         marks = list(files.marks(job.target)) if job.target is not None else []

@@ -286,7 +286,8 @@ class Run:
                     whys[path] = why
         marked = [path for path in gone if path not in whys]
         if self._target is not None:
-            self._table.keep_only([path for path in marked if self._target.look(self._job.copy_of(path)) is not None])
+            self._table.keep_only([path for path in {**gone, **unmarked} if path not in whys
+                                   and self._target.look(self._job.copy_of(path)) is not None])
         self._table.forget(marked)
         self._table.forget_copies([path for path in unmarked if path not in whys])
         self._due -= self._table.are_not_marked(whys, self._number, self._job.owner.number)

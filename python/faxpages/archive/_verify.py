@@ -8,6 +8,7 @@ import os
 from typing import Dict, List, Tuple
 
 from . import _engine as engine
+from . import _files as files
 from ._database import TableError
 from ._fax import FAULTY, GOOD, NOT_READ, Done, Job
 from ._progress import Progress
@@ -28,6 +29,7 @@ def verify(words: argparse.Namespace) -> int:
         kept = table.job() or {}
         if kept.get("job") != "convert":
             raise TableError(f"{words.table} is of no conversion, and knows of no copies")
+        files.root_of(target)
         due = table.begin_verification()
         table.commit_all()
         _do_all(words, Job(b"", target, str(kept["to"]), verify=True), table, due)

@@ -2,15 +2,17 @@
 
 from __future__ import annotations
 
+import hashlib
 import json
 import os
 import re
 import zlib
-from typing import TYPE_CHECKING, Dict, List, Optional, Set, Tuple
+from typing import TYPE_CHECKING, Dict, FrozenSet, List, Optional, Set, Tuple
 
 from tests.archive.drawn.contents import Verdict, digest
 from tests.archive.drawn.model import (
-    GOOD, NOT_READ, Fax, Job, Stood, Words, about_to_go, deleted_in, rows_of, see, status_of, where_in,
+    GOOD, NOT_READ, Fax, Job, Model, Original, Row, Stood, Words, about_to_go, deleted_in, has_turned, originals_of, rows_of,
+    see, status_of, where_in,
 )
 from tests.archive.drawn.playing import Ran, Trouble
 from tests.archive.drawn.world import Entry, World, folded, snapshot
@@ -28,16 +30,16 @@ class Difference(Exception):
 
 
 class Before:
-    """All that stood when a run began."""
+    """All that stood when a run began; where a table is named, what that one says is taken for what the run's own says."""
 
-    def __init__(self, world: World, job: Job, other_user: bool) -> None:
+    def __init__(self, world: World, job: Job, other_user: bool, table: Optional[str] = None) -> None:
         self.tree, self.target, self.outside = (snapshot(it) for it in (world.tree, world.target, world.outside))
         if world.folds:
             self.target = {folded(name): entry for name, entry in self.target.items()}
-        self.rows, self.last = rows_of(os.path.join(os.fsdecode(world.tables), job.table))
-        self.deleted = deleted_in(os.path.join(os.fsdecode(world.tables), job.table))
-        self.about_to_go = about_to_go(os.path.join(os.fsdecode(world.tables), job.table))
-        self.where = where_in(os.path.join(os.fsdecode(world.tables), job.table))
+        table = os.path.join(os.fsdecode(world.tables), job.table) if table is None else table
+        self.rows, self.last = rows_of(table)
+        self.originals = originals_of(table)
+        self.deleted, self.about_to_go, self.where = deleted_in(table), about_to_go(table), where_in(table)
         self.seen = see(world, job, other_user)
 
 
@@ -46,23 +48,28 @@ class Comparison:
 
     def __init__(self, episode: Episode, job: Job, words: Words, trouble: Trouble, before: Before, ran: Ran) -> None:
         self.episode, self.job, self.words, self.trouble = episode, job, words, trouble
-        self.before, self.ran = before, ran
+        self.before: Before = before
+        self.ran: Ran = ran
         self.beside: Optional[Comparison] = None
         # Of which copies it was not known before whose they are.
-        self.unsure = frozenset(episode.model.maybe.setdefault(job.table, set()))
-        self.world, self.model = episode.world, episode.model
-        self.after = Before(self.world, job, episode.other_user)
-        self.troubled = bool(trouble.at) or trouble.largest is not None
+        self.unsure: FrozenSet[bytes] = frozenset(episode.model.maybe.setdefault(job.table, set()))
+        self.world: World = episode.world
+        self.model: Model = episode.model
+        self.after: Before = Before(self.world, job, episode.other_user)
+        self.troubled: bool = bool(trouble.at) or trouble.largest is not None
+        # The faxes that have other bytes than the table knows, with the same sizes and times.
+        self.turned = {path for path, fax in before.seen.faxes.items() if has_turned(fax, before.originals.get(path))}
         self.amid = trouble.event if os.path.exists(os.path.join(self.world.folder, b"amid")) else None
         self._accept_amid()
         # Of each name below the target the faxes whose copy, or whose fields, may stand there: where case is folded,
         # there may be several.
         self.wanted: Dict[bytes, List[Tuple[bytes, Fax, bytes]]] = {}
         for path, fax in before.seen.faxes.items():
-            if job.to and fax.data is not None and not self.model.teller.verdict(fax.data).status:
+            good = fax.data is not None and not self.model.teller.verdict(fax.data).status
+            if job.to and good and (path not in self.turned or path == self.changed_amid):
                 for name, data in self.model.wanted(self.world, job, path, fax).items():
                     self.wanted.setdefault(name, []).append((path, fax, data))
-        self.outcomes = {path: self.model.outcome(self.world, job, path, fax, before.target)
+        self.outcomes = {path: self.model.outcome(self.world, job, path, fax, before.target, path in self.turned)
                          for path, fax in self._share().items()}
         last, said = before.last, json.dumps([words.again, job.fields])
         number = 1 if last is None else last[0] + (last[1] != said or bool(last[3]))
@@ -114,6 +121,14 @@ class Comparison:
         self._tree()
         self._target(refused is not None)
 
+    def safe(self) -> None:
+        """Compares what stands in the folders where it is not known what the table knows."""
+        self._tree()
+        for name in set(self.before.target) | set(self.after.target):
+            if self.before.target.get(name) != self.after.target.get(name):
+                self.model.maybe.setdefault(self.job.table, set()).add(name)
+                self._written(name, False)
+
     def rows(self) -> None:
         """Notes what is whose now, and compares the rows and what was told."""
         refused = self._refused()
@@ -122,6 +137,7 @@ class Comparison:
             self.claim(self.before.rows == self.after.rows, "rows changed where nothing was to be")
             return
         self._rows()
+        self._originals()
         if not self.troubled or (self.ran.status in (0, 1) and self.amid is None):
             self._finished()
             self._folded()
@@ -170,6 +186,7 @@ class Comparison:
         self.claim(self.words.delete and fax is not None and fax.inside, f"deleted: {name!r}")
         assert fax is not None
         self.claim(not fax.written, f"deleted, and another program writes it: {name!r}")
+        self.claim(name not in self.turned or name == self.changed_amid, f"deleted, and a bit has turned: {name!r}")
         self.claim(
             fax.data is not None and not self.model.teller.verdict(
                 fax.data).status,
@@ -179,10 +196,8 @@ class Comparison:
             there = self.after.target.get(copy)
             self.claim(there is not None and there.kind == "file", f"deleted, no copy: {name!r}")
             assert there is not None
-            wanted = [data] if not copy.endswith(b".fields") else [
-                data, there.data] if _same_but_name(
-                data, there.data) else [data]
-            self.claim(there.data in wanted, f"deleted, copy has other bytes: {name!r}")
+            right = there.data == data or (copy.endswith(b".fields") and self._are_fields(name, fax, there.data))
+            self.claim(right, f"deleted, copy has other bytes: {name!r}")
         lacks = set(self.episode.lacks[fax.data])
         if self.job.fields:
             lacks.discard("fields")
@@ -192,6 +207,14 @@ class Comparison:
             # No image says a resolution.
             lacks.discard("resolution")
         self.claim(lacks <= set(self.words.give_up), f"deleted, copy lacks {lacks}: {name!r}")
+
+    def _are_fields(self, name: bytes, fax: Fax, there: bytes) -> bool:
+        """Whether these are the fields of a fax: of one whose digest no table knows a bit may have turned since."""
+        assert fax.data is not None
+        known = self.before.originals.get(name)
+        others = self.world.turned.get(fax.data, ()) if known is None or known[:2] != (fax.size, fax.mtime) else ()
+        path = os.path.join(self.world.tree, name)
+        return any(_same_but_name(self.model.teller.fields(data, path), there) for data in (fax.data, *others))
 
     def _target(self, refused: bool) -> None:
         """What is written is a right copy where none was, or where ours was; nothing else is touched."""
@@ -336,8 +359,15 @@ class Comparison:
         only, target = self.model.only, self.after.target
         for name in [name for name, data in only.items() if name not in target or target[name].data != data]:
             del only[name]
+        self.model.kept_by(self.job.table).note(self, deleted)
         if self.troubled or self.beside is not None or self.ran.status not in (0, 1, 3):
             return
+        if self._refused() is None:
+            # What versions before 1.6 deleted, whose copies they did not mark.
+            for path, (name, data) in self.model.left.pop(self.job.table, {}).items():
+                there = target.get(name)
+                if path not in self.before.seen.faxes and there is not None and (there.kind, there.data) == ("file", data):
+                    only[name] = data
         gone = set(self.before.rows) - set(self.after.rows) - set(self.after.tree)
         for path in deleted | gone:
             for name in self.job.copies_of(path):
@@ -376,6 +406,22 @@ class Comparison:
                 self._note_good(path, fax)
         for path in set(self.before.rows) - set(self.after.rows):
             self.claim(path not in faxes or self.words.delete, f"a row is lost: {path!r}")
+
+    def _originals(self) -> None:
+        """The digest of each fax that was read is kept; of one whose bits have turned, that of what it was."""
+        before, after = self.before.originals, self.after.originals
+        perhaps = self._perhaps_due()
+        for path, row in self.after.rows.items():
+            fax = self._share().get(path)
+            if fax is None or fax.data is None or self.beside is not None or self._is_amid(path) or row.stays:
+                continue
+            now = Original(fax.size, fax.mtime, hashlib.sha256(fax.data).digest())
+            was = before.get(path) if path in self.before.rows else None
+            done = path in self.due and path not in perhaps and not self.troubled
+            wanted = {was, now} if path not in self.turned else {was}
+            if done and _was_read(row) and path not in self.turned:
+                wanted = {now}
+            self.claim(after.get(path) in wanted, f"the digest of {path!r}: {after.get(path)}, wanted {wanted}")
 
     def _is_not_marked(self, path: bytes) -> bool:
         """Whether the copy of a fax that had gone was not marked, since a call was refused, now or in a run before.
@@ -488,7 +534,8 @@ class Comparison:
         """All that may be deleted is, or nothing, where the words ask for that; the status is 3 where a good fax
         stays."""
         good = [path for path, row in self.after.rows.items() if row.verdict.status == GOOD]
-        left = [path for path in good if path in self.after.tree and self._share()[path].inside]
+        faxes = self._share()
+        left = [path for path in good if path in self.after.tree and path in faxes and faxes[path].inside]
         self.claim(self.ran.status in (worst, NOT_READ), f"status {self.ran.status}, wanted {worst} or 3")
         self.claim(self.ran.status == NOT_READ or bool(self.words.whole and worst) or not left, f"not deleted: {left}")
         gone = set(self.before.tree) - set(self.after.tree)
@@ -500,7 +547,8 @@ class Comparison:
     def _may_go(self, path: bytes) -> bool:
         """Whether it is sure that nothing keeps a good fax."""
         fax = self._share()[path]
-        assert fax.data is not None
+        if path in self.turned or fax.data is None or self.model.teller.verdict(fax.data).status:
+            return False
         lacks = set(self.episode.lacks[fax.data]) - set(self.words.give_up)
         wanted = self.model.wanted(self.world, self.job, path, fax)
         ours = all(self.model.owned(self.job, name) == data for name, data in wanted.items())
@@ -568,6 +616,11 @@ def done_by(ran: Ran) -> int:
 def _folders_of(path: bytes) -> List[bytes]:
     """The folders that a path goes through."""
     return [path[:at] for at, letter in enumerate(path) if letter == ord("/")]
+
+
+def _was_read(row: Row) -> bool:
+    """Whether a fax with this row was read."""
+    return row.verdict.status != NOT_READ or row.verdict.fault in ("Exists", "Write", "Fields", "RowsDiffer")
 
 
 def _same_but_name(one: bytes, other: bytes) -> bool:

@@ -6,21 +6,25 @@ import os
 import re
 import struct
 import subprocess
-from typing import FrozenSet, Iterable, List, NamedTuple, Optional, Tuple
+from typing import FrozenSet, Iterable, Iterator, List, NamedTuple, Optional, Tuple
 from types import ModuleType
 
-from tests.convert import pages
+from tests.convert import files, pages
 from tests.finding import found
 
 ENTRY = 12
+# What stands in the fields of some faxes.
+WORDS = [b"a description", b"a sub address", b"what nobody knows"]
 OTHER, OTHER_KINDS = 2, ("Unsupported", "Magic", "ByteOrder")
 
 
 class Content(NamedTuple):
-    """The bytes of a fax, and what a converted copy of it lacks, by how it was made."""
+    """The bytes of a fax, what a converted copy of it lacks, by how it was made, and the same with a bit that has turned:
+    so that it has other rows, other fields, or a fault."""
 
     data: bytes
     lacks: FrozenSet[str] = frozenset()
+    turned: Tuple[bytes, ...] = ()
 
 
 class Verdict(NamedTuple):
@@ -84,16 +88,55 @@ def drawn(faxpages: ModuleType, seed: int) -> List[Content]:
     found.append(Content(faxpages.convert(image + second, "mmr")))
     found.append(Content(faxpages.convert(second, "mh")))
     found.append(Content(with_value(plain[2], (257, 278), 3), frozenset(["data"])))
-    found.append(Content(with_field(plain[0], 270, b"a description\0"), frozenset(["fields"])))
-    found.append(Content(with_field(plain[1], 34909, b"a sub address\0"), frozenset(["fields"])))
-    found.append(Content(with_field(plain[2], 65000, b"what nobody knows\0"), frozenset(["private"])))
+    for fax, tag, words, lacks in zip(plain, (270, 34909, 65000), WORDS, ("fields", "fields", "private")):
+        found.append(Content(with_field(fax, tag, words + b"\0"), frozenset([lacks])))
     found.append(Content(without_resolution(plain[2]), frozenset(["resolution"])))
     found.append(Content(plain[0] + b"\0\0\0\0more of it", frozenset(["bytes"])))
     found.append(Content(plain[0][:-20]))
     found.append(Content(with_value(plain[2], (259,), 5)))
     found.append(Content(b""))
     found.append(Content(b"no fax at all"))
-    return found
+    return [it._replace(turned=turned(faxpages, it.data)) for it in found]
+
+
+def with_bit(data: bytes, bit: int) -> bytes:
+    """The same bytes, one bit of which has turned."""
+    return data[:bit // 8] + bytes([data[bit // 8] ^ 1 << bit % 8]) + data[bit // 8 + 1:]
+
+
+@functools.lru_cache(maxsize=None)
+def turned(faxpages: ModuleType, fax: bytes) -> Tuple[bytes, ...]:
+    """A good fax with a bit that has turned: one each with other rows and the same notes, with other words in a field,
+    and with a fault; of what is no good fax nothing."""
+    report = faxpages.check(fax)
+    if report.fault:
+        return ()
+    rows, found = rows_of(faxpages, fax), dict[str, bytes]()
+    places = [fax.index(words) for words in WORDS if words in fax]
+    if places:
+        found["fields"] = with_bit(fax, 8 * places[0])
+    for bit in bits_of_strips(fax):
+        data = with_bit(fax, bit)
+        now = faxpages.check(data)
+        if now.fault:
+            found.setdefault("fault", data)
+        elif now.notes == report.notes and rows_of(faxpages, data) != rows:
+            found.setdefault("rows", data)
+        if {"fault", "rows"} <= set(found):
+            break
+    return tuple(found.values())
+
+
+def bits_of_strips(fax: bytes) -> Iterator[int]:
+    """The places of the bits of all strips."""
+    for fields in files.directories_of(fax):
+        for place, size in zip(fields[273], fields[279]):
+            yield from range(8 * place, 8 * (place + size))
+
+
+def rows_of(faxpages: ModuleType, fax: bytes) -> List[List[Tuple[int, ...]]]:
+    """The rows of a whole fax, page by page."""
+    return [[tuple(row.runs()) for row in page] for page in faxpages.Fax(fax).pages]
 
 
 class Teller:

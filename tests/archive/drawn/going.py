@@ -54,6 +54,7 @@ class Gone(Comparison):
         # Where TARGET was only renamed all copies are there still, but for those that were made again.
         self.after.target = {**(snapshot(moved) if os.path.isdir(moved) else {}), **self.after.target}
         deleted = set(before) - set(after)
+        self.model.kept_by(self.job.table).note(self, deleted)
         # Where it went before the run opened it, the copies were made again in the folder that has its name.
         late = {name for name in deleted & left_at(room) if not there.issuperset(self.job.copies_of(name)[:1])}
         self.claim(len(late) <= 1, f"deleted once the copies were gone: {late}")

@@ -2,17 +2,23 @@
 deleted. It looks at folders and at the rows of tables, and knows nothing of how the command does it."""
 
 import contextlib
+import hashlib
 import json
 import os
 import sqlite3
 import stat
-from typing import Dict, Iterable, List, NamedTuple, Optional, Set, Tuple
+from typing import Any, Dict, Iterable, List, NamedTuple, Optional, Set, Tuple
 
-from tests.archive.drawn.contents import OTHER, Teller, Verdict
+from tests.archive.drawn.contents import OTHER, OTHER_KINDS, Teller, Verdict
+from tests.archive.drawn.kept import KeptOnes
 from tests.archive.drawn.world import Entry, World, folded
 
 ENDINGS = (b".tif", b".tiff")
 GOOD, FAULTY, NOT_READ = 0, 1, 3
+# The first version of tables that knows files of other kinds.
+WITH_OTHERS = 3
+# The row of a fax that has other bytes than before, and the same size and time.
+TURNED = Verdict(FAULTY, "Changed")
 
 
 class Job(NamedTuple):
@@ -70,6 +76,14 @@ class Row(NamedTuple):
     lacks: Optional[str]
     run: int
     stays: bool = False
+
+
+class Original(NamedTuple):
+    """What a table keeps of a fax as it was read: its size, its time, and the digest of its bytes."""
+
+    size: int
+    mtime: float
+    digest: bytes
 
 
 class Stood(NamedTuple):
@@ -146,56 +160,66 @@ def _fax(world: World, path: bytes, kind: str, other_user: bool, inside: bool) -
 Table = Tuple[Dict[bytes, Row], Optional[Tuple[int, str, bool, bool]]]
 
 
+def answers(table: str, query: str) -> List[Tuple[Any, ...]]:
+    """The rows of a query; none where there is no table, or it has none of what is asked for."""
+    if not os.path.exists(table):
+        return []
+    with contextlib.closing(sqlite3.connect(table)) as base, contextlib.suppress(sqlite3.OperationalError):
+        return base.execute(query).fetchall()
+    return []
+
+
 def rows_of(table: str) -> Table:
     """What a table says."""
-    if not os.path.exists(table):
-        return {}, None
-    with contextlib.closing(sqlite3.connect(table)) as base:
-        try:
-            found = base.execute(
-                "SELECT CAST(path AS BLOB), size, mtime, status, fault, fault_page, fault_row, fault_tag, lacks, run, "
-                "status = 0 AND path NOT IN (SELECT path FROM copies) "
-                "FROM faxes JOIN times USING (path)").fetchall()
-            last = base.execute("SELECT number, words, ended IS NOT NULL AND NOT unread, ended IS NOT NULL FROM runs "
-                                "ORDER BY number DESC LIMIT 1").fetchone()
-        except sqlite3.OperationalError:
-            return {}, None
+    found = answers(table, "SELECT CAST(path AS BLOB), size, mtime, status, fault, fault_page, fault_row, fault_tag, "
+                         "lacks, run, status = 0 AND path NOT IN (SELECT path FROM copies) "
+                         "FROM faxes JOIN times USING (path)")
+    last = answers(table, "SELECT number, words, ended IS NOT NULL AND NOT unread, ended IS NOT NULL FROM runs "
+                        "ORDER BY number DESC LIMIT 1")
     rows = {row[0]: Row(row[1], row[2], Verdict(*row[3:8]), row[8], row[9], bool(row[10])) for row in found}
-    return rows, last
+    if version_of(table) < WITH_OTHERS:
+        rows = {path: row._replace(verdict=_of_other_kinds(row.verdict)) for path, row in rows.items()}
+    return rows, (last[0][0], last[0][1], bool(last[0][2]), bool(last[0][3])) if last else None
+
+
+def _of_other_kinds(verdict: Verdict) -> Verdict:
+    """What a later version makes of the verdict of an earlier one, which called files of other kinds faulty."""
+    return verdict._replace(status=OTHER) if verdict.status == FAULTY and verdict.fault in OTHER_KINDS else verdict
+
+
+def version_of(table: str) -> int:
+    """Which version of tables a table is of."""
+    found = answers(table, "PRAGMA user_version")
+    return int(found[0][0]) if found else 0
+
+
+def originals_of(table: str) -> Dict[bytes, Original]:
+    """What a table keeps of faxes as they were read."""
+    return {path: Original(size, mtime, bytes(digest)) for path, size, mtime, digest in answers(
+        table, "SELECT CAST(path AS BLOB), size, mtime, digest FROM originals WHERE digest IS NOT NULL")}
 
 
 def deleted_in(table: str) -> int:
     """How many faxes a table says were deleted."""
-    if not os.path.exists(table):
-        return 0
-    with contextlib.closing(sqlite3.connect(table)) as base:
-        try:
-            return int(base.execute("SELECT count(*) FROM deleted").fetchone()[0])
-        except sqlite3.OperationalError:
-            return 0
+    found = answers(table, "SELECT count(*) FROM deleted")
+    return int(found[0][0]) if found else 0
 
 
 def about_to_go(table: str) -> Set[bytes]:
     """The faxes of which a table says that they were to be deleted, and not that they are gone."""
-    if not os.path.exists(table):
-        return set()
-    with contextlib.closing(sqlite3.connect(table)) as base:
-        try:
-            return {path for (path,) in base.execute("SELECT CAST(path AS BLOB) FROM deleted WHERE deleted = 0")}
-        except sqlite3.OperationalError:
-            return set()
+    return {path for (path,) in answers(table, "SELECT CAST(path AS BLOB) FROM deleted WHERE deleted = 0")}
 
 
 def where_in(table: str) -> Optional[bytes]:
     """Where a table says that its tree stands."""
-    if not os.path.exists(table):
-        return None
-    with contextlib.closing(sqlite3.connect(table)) as base:
-        try:
-            found = base.execute("SELECT value FROM job WHERE name = 'where'").fetchone()
-        except sqlite3.OperationalError:
-            return None
-    return json.loads(found[0])["tree"].encode("utf-8", "surrogateescape") if found else None
+    found = answers(table, "SELECT value FROM job WHERE name = 'where'")
+    return json.loads(found[0][0])["tree"].encode("utf-8", "surrogateescape") if found else None
+
+
+def has_turned(fax: Fax, known: Optional[Original]) -> bool:
+    """Whether a fax has other bytes than are known of it, though it has the same size and time of change."""
+    return known is not None and fax.data is not None and known[:2] == (fax.size, fax.mtime) and (
+        hashlib.sha256(fax.data).digest() != known.digest)
 
 
 def status_of(statuses: Iterable[int]) -> int:
@@ -218,6 +242,14 @@ class Model:
         self.holder: Dict[bytes, bytes] = {}
         # All that was written into a place, or taken over, by any table.
         self.written: Dict[bytes, Set[bytes]] = {}
+        # The only copies that each table knows; and those that the next run has to mark, since a version before 1.6 did
+        # not: the names of the copies, and their bytes, by the paths of the faxes.
+        self.kept: Dict[str, KeptOnes] = {}
+        self.left: Dict[str, Dict[bytes, Tuple[bytes, bytes]]] = {}
+
+    def kept_by(self, table: str) -> KeptOnes:
+        """The only copies that a table knows."""
+        return self.kept.setdefault(table, KeptOnes())
 
     def owned(self, job: Job, name: bytes) -> Optional[bytes]:
         return self.ours.setdefault(job.table, {}).get(name)
@@ -267,11 +299,14 @@ class Model:
         return not self.stands(job, name, target) or (
             job.fields and not self.stands(job, name + b".fields", target))
 
-    def outcome(self, world: World, job: Job, path: bytes, fax: Fax, target: Dict[bytes, Entry]) -> Verdict:
-        """What comes of a fax that is done."""
+    def outcome(self, world: World, job: Job, path: bytes, fax: Fax, target: Dict[bytes, Entry],
+                turned: bool) -> Verdict:
+        """What comes of a fax that is done; of one whose bits have turned nothing is written."""
         if fax.data is None:
             return Verdict(NOT_READ, "Open")
         verdict = self.teller.verdict(fax.data)
+        if turned and not verdict.status:
+            return TURNED
         if verdict.status or not job.to:
             return verdict
         folder = os.path.dirname(job.copy_of(path))

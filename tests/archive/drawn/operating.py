@@ -10,12 +10,16 @@ import signal
 import time
 from typing import Callable, Dict, List, Set
 
-from tests.archive.drawn import cluster, folding, going, playing
+from tests.archive.drawn import cluster, folding, going, hurting, older, playing
 from tests.archive.drawn.comparing import Before, Comparison, Difference, compare_two, done_by
 from tests.archive.drawn.contents import Content, Teller
-from tests.archive.drawn.model import NOT_READ, Job, Model, Row, Table, Words, rows_of, status_of, where_in
+from tests.archive.drawn.kept import KeptOnes, right_of
+from tests.archive.drawn.model import (
+    NOT_READ, Job, Model, Original, Row, Table, Words, originals_of, rows_of, status_of, where_in,
+)
 from tests.archive.drawn.playing import INLINE, Engine, Event, Ran, Started, Trouble
-from tests.archive.drawn.world import Entry, World, snapshot
+from tests.archive.drawn.verified import Verification
+from tests.archive.drawn.world import Entry, World, put_in_place, put_other, snapshot
 from tests.waiting import there_in, wait_for
 
 _NONE = Entry("none", 0, (0, 0), 0, b"")
@@ -32,7 +36,7 @@ class Episode:
 
     def __init__(self, folder: str, rng: random.Random, faxes: List[Content], teller: Teller, kind: str) -> None:
         self.rng, self.kind, self.teller = rng, kind, teller
-        self.lacks = {content.data: content.lacks for content in faxes}
+        self.lacks = {data: content.lacks for content in faxes for data in (content.data, *content.turned)}
         self.other_user = kind == PLAIN and os.geteuid() == 0 and rng.random() < 0.2
         if kind == FOLDED:
             os.makedirs(os.path.join(folder, "target"))
@@ -40,6 +44,9 @@ class Episode:
         # Where TARGET goes all faxes are good, since nothing is deleted where one is not.
         given = [it.data for it in faxes if kind != GOING or not teller.verdict(it.data).status]
         self.world = World(folder, rng, given, kind == FOLDED)
+        for content in faxes:
+            self.world.turned.update({content.data: content.turned} if content.turned else {})
+            self.world.turned.update((data, (content.data,)) for data in content.turned)
         self.model = Model(teller)
         follow = not self.other_user and kind != GOING and rng.random() < 0.35
         dumps = shutil.which("tiffdump") is not None
@@ -49,6 +56,8 @@ class Episode:
         self.jobs = [Job("check.sqlite", follow=follow), Job("copies.sqlite", to, follow, fields, folds=folds),
                      Job("others.sqlite", rng.choice([to, ("mmr",)]), follow, fields, folds=folds)]
         self.closed: Set[bytes] = set()
+        # What the model knew of only copies when a table was copied to where backups are.
+        self.backed: Dict[str, KeptOnes] = {}
         self.log: List[str] = []
         self.cluster = cluster.Cluster(os.path.join(folder, "dask")) if kind == DASK else None
         if self.other_user:
@@ -79,11 +88,15 @@ class Episode:
                 self._hand_over()
             return
         way = self.rng.random()
-        if way < 0.08:
+        if way < 0.06:
             self._table()
-        elif way < 0.14:
+        elif way < 0.12:
             self._array()
-        elif way < 0.35:
+        elif way < 0.21:
+            self._verify()
+        elif way < 0.28:
+            self._damage()
+        elif way < 0.42:
             self._command(self.jobs[0])
         else:
             self._command(self.jobs[1] if self.rng.random() < 0.8 else self.jobs[2])
@@ -91,9 +104,9 @@ class Episode:
     def _events(self) -> List[Callable[[], None]]:
         world = self.world
         common = [world.change, world.touch, world.more, world.more, world.vanish, world.move, world.hurt_copy,
-                  world.hard_link, world.write]
+                  world.hard_link, world.write, world.turn, self._hurt_only]
         rare = [world.foreign, world.new_link, world.link_in_target, world.away, world.move_tree,
-                self._back_up, self._restore, self._restore]
+                self._back_up, self._restore, self._restore, self._older]
         if self.other_user:
             rare.append(self._close_or_open)
         if self.kind == STRANGERS:
@@ -107,6 +120,7 @@ class Episode:
             path = os.path.join(os.fsdecode(self.world.tables), job.table)
             if os.path.exists(path):
                 shutil.copy(path, path + "-backup")
+                self.backed[job.table] = self.model.kept_by(job.table).copied()
 
     def _restore(self) -> None:
         """Tables are those of the last backup again. What was whose since is not known."""
@@ -114,9 +128,51 @@ class Episode:
             path = os.path.join(os.fsdecode(self.world.tables), job.table)
             if os.path.exists(path + "-backup"):
                 shutil.copy(path + "-backup", path)
-                names = {name for name, entry in snapshot(self.world.target).items() if entry.kind == "file"}
-                names |= {name for path in rows_of(path)[0] for name in job.copies_of(path)}
-                self.model.maybe.setdefault(job.table, set()).update(names)
+                self.model.kept[job.table] = self.backed[job.table].copied()
+                self.forget_whose(job)
+
+    def forget_whose(self, job: Job) -> None:
+        """From now on it is not known what a table knows of any copy, but for the only ones."""
+        path = os.path.join(os.fsdecode(self.world.tables), job.table)
+        if job.to:
+            names = {name for name, entry in snapshot(self.world.target).items() if entry.kind == "file"}
+            names |= {name for path in rows_of(path)[0] for name in job.copies_of(path)}
+            self.model.maybe.setdefault(job.table, set()).update(names)
+            self.model.left.pop(job.table, None)
+
+    def _older(self) -> None:
+        """A table, and what it wrote, is as version 1.5.2 left it."""
+        tables = [job for job in self.jobs if os.path.exists(os.path.join(self.world.tables, os.fsencode(job.table)))]
+        if tables:
+            older.make(self, self.rng.choice(tables))
+
+    def _hurt_only(self) -> None:
+        """An only copy, or its fields, changes without a trace, is cut, is gone, or something else has its place; or it
+        is as it was again."""
+        found = [(job, path) for job in self.jobs[1:] for path in sorted(self.model.kept_by(job.table).sure)]
+        if not found:
+            return
+        job, path = self.rng.choice(found)
+        name, data = self.rng.choice(right_of(self.model.kept_by(job.table).sure[path], job, path))
+        place, way = os.path.join(self.world.target, name), self.rng.choice(["turned", "cut", "gone", "other", "right"])
+        folder = os.path.dirname(place)
+        if os.path.isdir(place) or self.world.blocked(folder) or not os.path.isdir(folder):
+            return
+        self.log.append(f"    {name!r}: {way}")
+        if way in ("gone", "other"):
+            if os.path.lexists(place):
+                os.unlink(place)
+            if way == "other":
+                put_other(place, self.rng.choice(["folder", "pipe", "link"]))
+        elif os.path.isfile(place) and not os.path.islink(place):
+            turned = bytes([data[0] ^ 1]) + data[1:]
+            put_in_place(place, {"turned": turned, "cut": data[:self.rng.randrange(len(data))], "right": data}[way])
+        elif way == "right":
+            # Out of a backup that keeps no attributes.
+            self.world.put(place, data, 0o644)
+            self.model.only.pop(name, None)
+            for its in self.jobs[1:]:
+                self.model.maybe.setdefault(its.table, set()).add(name)
 
     def _close_or_open(self) -> None:
         """A fax or a folder cannot be read any more, or can again."""
@@ -133,7 +189,7 @@ class Episode:
             os.chmod(os.path.join(self.world.tree, name), 0)
             self.closed.add(name)
 
-    def _words(self, job: Job) -> Words:
+    def words(self, job: Job) -> Words:
         rng = self.rng
         again = rng.choice([None] * 5 + ["unread", "faulty", "all"] + (["copies"] if job.to else []))
         gone = rng.random() < 0.3
@@ -144,7 +200,7 @@ class Episode:
         return Words(again, gone, delete, give_up, rng.random() < 0.1, not delete and rng.random() < 0.1,
                      delete and rng.random() < 0.3)
 
-    def _given(self, job: Job, words: Words) -> List[str]:
+    def given(self, job: Job, words: Words) -> List[str]:
         """The words of the command line."""
         folders = [os.fsdecode(self.world.tree)] + ([os.fsdecode(self.world.target)] if job.to else [])
         given = ["convert" if job.to else "check", *folders,
@@ -163,7 +219,7 @@ class Episode:
         if self.kind == SECOND and self.rng.random() < 0.5:
             self._two(job, self.rng.choice([job, *self.jobs]))
             return
-        words = self._words(job)
+        words = self.words(job)
         trouble = playing.drawn_trouble(self.rng)._replace(other_user=self.other_user)
         before = Before(self.world, job, self.other_user)
         often = 0.5 if words.delete or words.again == "copies" else 0.2
@@ -173,7 +229,7 @@ class Episode:
             trouble = self._target_goes(before, trouble)
         elif calm and self.rng.random() < often:
             trouble = self._amid(job, before, trouble)
-        given, engine = self._given(job, words), self._engine()
+        given, engine = self.given(job, words), self._engine()
         self.log.append(f"{' '.join(map(ascii, (*given, *engine.words)))} {trouble}")
         ran = playing.run(given, os.fsdecode(self.world.folder), trouble, engine, self.rng)
         self._say(ran)
@@ -184,6 +240,34 @@ class Episode:
             going.Gone(self, job, words, trouble, before, ran).all()
         else:
             Comparison(self, job, words, trouble, before, ran).all()
+
+    def _verify(self) -> None:
+        """Has the only copies be looked at, and compares."""
+        known = [job for job in self.jobs if self.model.kept_by(job.table).sure]
+        job = self.rng.choice(known if known and self.rng.random() < 0.8 else self.jobs)
+        if self.rng.random() < 0.5:
+            self._hurt_only()
+        trouble = playing.drawn_trouble(self.rng)._replace(other_user=self.other_user)
+        before = Before(self.world, job, self.other_user)
+        given, engine = self.verifying(job), self._engine()
+        self.log.append(f"{' '.join(map(ascii, (*given, *engine.words)))} {trouble}")
+        ran = playing.run(given, os.fsdecode(self.world.folder), trouble, engine, self.rng)
+        self._say(ran)
+        if engine.words:
+            trouble = self._workers_ended(trouble)
+        Verification(self, job, given, trouble, before, ran).all()
+
+    def verifying(self, job: Job) -> List[str]:
+        """The words of a verification."""
+        given = ["verify", os.fsdecode(self.world.target), "--table", f"{os.fsdecode(self.world.tables)}/{job.table}"]
+        return given + [word for word, share in (("--names", 0.6), ("--gone", 0.2)) if self.rng.random() < share]
+
+    def _damage(self) -> None:
+        """Bits of a table turn."""
+        there = [job for job in self.jobs if rows_of(
+            os.path.join(os.fsdecode(self.world.tables), job.table))[1] is not None]
+        if there:
+            hurting.Damage(self, self.rng.choice(there)).do()
 
     def _target_goes(self, before: Before, trouble: Trouble) -> Trouble:
         """Has TARGET go at some call of the run."""
@@ -208,7 +292,7 @@ class Episode:
 
     def _two(self, job: Job, other: Job) -> None:
         """Two runs at once, by one table or by two; compares both."""
-        words = [self._words(it) for it in (job, other)]
+        words = [self.words(it) for it in (job, other)]
         if other == job:
             words[1] = words[0]
         else:
@@ -219,7 +303,7 @@ class Episode:
         engine = self.rng.choice([INLINE, self._workers()])
         started = []
         for each, its, name in zip((job, other), words, ("", "2")):
-            given = self._given(each, its)
+            given = self.given(each, its)
             self.log.append(f"at once: {' '.join(map(ascii, (*given, *engine.words)))} {trouble}")
             started.append(Started(given, os.fsdecode(self.world.folder), trouble, engine, name=name))
             time.sleep(self.rng.choice([0.0, 0.01, 0.03]))
@@ -299,6 +383,7 @@ class Episode:
             return
         merged = f"{folder}/merged-{count}.sqlite"
         before = rows_of(merged)[0]
+        known = [originals_of(table) for table in (merged, *parts)]
         others = [f"{folder}/{name}" for name in sorted(os.listdir(folder)) if re.fullmatch(
             rf"part-\d-[^{count}]\.sqlite", name) and rows_of(f"{folder}/{name}")[1] is not None]
         if others and self.rng.random() < 0.5:
@@ -311,6 +396,7 @@ class Episode:
                 raise Difference(f"merge of two trees: status {ran.status}")
             return
         self._compare_merge(before, rows_of(merged), parts, count, ran)
+        self._compare_originals(originals_of(merged), known)
 
     def _merge_others(self, merged: str, parts: List[str]) -> None:
         """A merge with a part of an array of another size is refused, and changes nothing."""
@@ -320,6 +406,16 @@ class Episode:
         self.log.append(f"merge of other sizes {parts}: {ran.status} {ran.out!r} {ran.error!r}")
         if ran.status != NOT_READ or ran.out or rows_of(merged) != before:
             raise Difference(f"merge of parts of other sizes: status {ran.status}")
+
+    @staticmethod
+    def _compare_originals(after: Dict[bytes, Original], before: List[Dict[bytes, Original]]) -> None:
+        """What is known of a fax as it was read, by one of the tables, is known by the one that is merged of them."""
+        for path, it in after.items():
+            if it not in [known.get(path) for known in before]:
+                raise Difference(f"merge: the digest of {path!r}")
+        lost = {path for known in before for path in known} - set(after)
+        if lost & set(before[-1]):
+            raise Difference(f"merge: the digests of {lost} are lost")
 
     def _compare_merge(self, before: Dict[bytes, Row], after: Table, parts: List[str], count: int, ran: Ran) -> None:
         rows, _ = after

@@ -120,10 +120,11 @@ def _hook(trouble: Trouble, room: str) -> None:
 
     import faxpages.archive._files as files
     import faxpages.archive._marks as marks
+    import faxpages.archive._renewing as renewing
 
     hooked = Hooked()
-    setattr(files, "os", hooked)
-    setattr(marks, "os", hooked)
+    for module in (files, marks, renewing):
+        setattr(module, "os", hooked)
 
 
 def _inline() -> None:
@@ -193,7 +194,7 @@ def _child(words: List[str], room: str, names: List[str], trouble: Trouble, engi
         os.chdir(room)
         signal.alarm(PATIENCE)
         # What the command loads only where it needs it another user may not read.
-        for name in ("csv", "faxpages.archive._engine", "faxpages.archive._merge"):
+        for name in ("csv", *(f"faxpages.archive._{it}" for it in ("engine", "merge", "verify", "renewing"))):
             importlib.import_module(name)
         if trouble.other_user:
             os.setgroups([])

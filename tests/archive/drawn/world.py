@@ -41,6 +41,25 @@ def entry_of(path: bytes) -> Entry:
     return Entry("pipe", mode, owner, told.st_mtime_ns, b"")
 
 
+def put_in_place(path: bytes, data: bytes, later: int = 0) -> None:
+    """Gives a file other bytes, and leaves all else as it is, also the time of change, or makes that so much later."""
+    when = os.stat(path).st_mtime_ns + later
+    with open(path, "r+b") as file:
+        file.truncate(0)
+        file.write(data)
+    os.utime(path, ns=(when, when))
+
+
+def put_other(path: bytes, kind: str) -> None:
+    """What is no file comes into a place."""
+    if kind == "folder":
+        os.mkdir(path)
+    elif kind == "pipe":
+        os.mkfifo(path)
+    else:
+        os.symlink(b"nowhere", path)
+
+
 def folded(name: bytes) -> bytes:
     """A name as it is known in a folder that folds case."""
     return name.lower()
@@ -65,6 +84,8 @@ class World:
 
     def __init__(self, folder: str, rng: random.Random, contents: List[bytes], folds: bool = False) -> None:
         self.folder, self.rng, self.contents, self.folds = os.fsencode(folder), rng, contents, folds
+        # What becomes of a fax where a bit turns, and, where it has turned, what it was.
+        self.turned: Dict[bytes, Tuple[bytes, ...]] = {}
         self.names = NAMES + FOLDED_NAMES if folds else NAMES
         self.folders = FOLDERS + FOLDED_FOLDERS if folds else FOLDERS
         self.tree, self.target, self.outside, self.tables = (
@@ -146,6 +167,13 @@ class World:
             path = os.path.join(self.tree, fax)
             self.put(path, entry_of(path).data, self.rng.choice(MODES))
 
+    def turn(self) -> None:
+        """A bit of a fax turns, or turns back: it keeps its size and its time of change."""
+        faxes = [name for name in self.faxes() if entry_of(os.path.join(self.tree, name)).data in self.turned]
+        if faxes:
+            path = os.path.join(self.tree, self.rng.choice(faxes))
+            put_in_place(path, self.rng.choice(self.turned[entry_of(path).data]))
+
     def vanish(self) -> None:
         fax = self.any_fax()
         if fax is not None:
@@ -218,11 +246,7 @@ class World:
         elif way in ("changed", "rot") and data:
             at = self.rng.randrange(len(data))
             data = data[:at] + bytes([data[at] ^ 1]) + data[at + 1:]
-        when = entry.mtime if way == "rot" else entry.mtime + 1000
-        with open(path, "r+b") as file:
-            file.truncate(0)
-            file.write(data)
-        os.utime(path, ns=(when, when))
+        put_in_place(path, data, 0 if way == "rot" else 1000)
 
     def foreign(self) -> None:
         """Something of somebody else comes into the place of a copy or of its fields, or of a folder on the way."""
