@@ -263,6 +263,33 @@ def turned_before_delete(room: Room, *_given: object) -> None:
         room.claim("it is counted", told["stays"], {"Changed": 1})
 
 
+def written_amid(room: Room, *_given: object) -> None:
+    """A copy that a run has written which was killed before its row was, and whose fax has gone by the next run, is
+    right, as it was written last."""
+    _, other = two()
+    place = room("verified-written")
+    for name in NAMES:
+        put(f"{place}/tree/{name}", drawn()[""], mtime=TIME)
+    playing.run(words_of(place), place, playing.Trouble())
+    put(f"{place}/tree/b.tif", other)
+    os.rename(place, f"{place}-before")
+    wrong, at, written = [], 0, 0
+    for at in range(8, 60):
+        shutil.rmtree(place, ignore_errors=True)
+        shutil.copytree(f"{place}-before", place)
+        first = playing.run(words_of(place), place, playing.Trouble(at, kill=signal.SIGKILL))
+        with open(f"{place}/copies/b.tif", "rb") as file:
+            written += file.read() == faxpages.convert(other, "mmr")
+        os.unlink(f"{place}/tree/b.tif")
+        playing.run(words_of(place), place, playing.Trouble())
+        ran = verify(place, "--names")
+        if (ran.status, ran.out.partition(":")[0]) != (0, "only copies 1"):
+            wrong.append((at, ran))
+        if first.status != -signal.SIGKILL:
+            break
+    room.claim(f"a run is killed at each of {at} calls, {written} of them late", (wrong, written > 1), ([], True))
+
+
 def not_opened(room: Room, *_given: object) -> None:
     """A folder of copies that may not be opened is named, and nothing is said of the copies."""
     if os.geteuid() != 0:
@@ -301,4 +328,4 @@ def stays(room: Room, *_given: object) -> None:
 
 
 PARTS: list[Part] = [verified, verified_fields, only_ones, verified_amid, verified_older, turned, turned_before_delete,
-                     not_opened, stays]
+                     written_amid, not_opened, stays]

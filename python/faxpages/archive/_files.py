@@ -455,6 +455,16 @@ def disown(target: Root, relative: bytes, owner: Owner, stood: Optional[Stood]) 
         return _not_marked(target, relative, error)
 
 
+def noted_digest(target: Root, relative: bytes) -> Optional[str]:
+    """The digest that the mark of an only copy has; none where there is none. A run that was killed may have written a
+    copy of which the table does not know."""
+    try:
+        with target.place(relative) as place, opened(place) as file:
+            return digest_of_only(file) if file is not None else None
+    except (NotOurs, OSError):
+        return None
+
+
 def _not_marked(target: Root, relative: bytes, error: Exception) -> Optional[str]:
     """Why a copy cannot be marked, by what came of it; None where no file is there that may be a copy."""
     if isinstance(error, NotOurs):

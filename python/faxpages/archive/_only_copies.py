@@ -5,7 +5,7 @@ from __future__ import annotations
 
 import json
 import time
-from typing import Any, Dict, Iterator, List, Optional, Tuple
+from typing import Any, Dict, Iterable, Iterator, List, Optional, Tuple
 
 from . import _files as files
 from ._database import ONLY_SUM, Database, bytes_of, kept_path
@@ -17,13 +17,15 @@ class OnlyCopies(Database):
 
     _verified = 0
 
-    def keep_only(self, paths: List[bytes]) -> None:
-        """Notes that our copies of these faxes are the only ones, with their digests."""
+    def keep_only(self, copies: Iterable[Tuple[bytes, Optional[str], Optional[str]]]) -> None:
+        """Notes that our copies of these faxes are the only ones, with the digests that are given of them and of their
+        fields, and else with those that are known."""
         self.begin()
+        digest, fields = "ifnull(?2, digest)", "iif(fields_digest IS NULL, NULL, ifnull(?3, fields_digest))"
         self._base.executemany(
-            "INSERT OR REPLACE INTO only_copies SELECT path, digest, fields_digest, NULL, NULL, NULL, 0, "
-            f"{ONLY_SUM} FROM copies "
-            "WHERE path = ? AND ours", ((kept_path(path),) for path in paths))
+            f"INSERT OR REPLACE INTO only_copies SELECT path, {digest}, {fields}, NULL, NULL, NULL, 0, "
+            f"row_sum(path, {digest}, {fields}) FROM copies WHERE path = ?1 AND ours",
+            ((kept_path(path), *digests) for path, *digests in copies))
 
     def put_only(self, rows: List[Tuple[Any, ...]]) -> None:
         """Notes only copies, with their digests and those of their fields, but for what is known of."""

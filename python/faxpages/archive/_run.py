@@ -286,7 +286,7 @@ class Run:
                     whys[path] = why
         marked = [path for path in gone if path not in whys]
         if self._target is not None:
-            self._table.keep_only([path for path in {**gone, **unmarked} if path not in whys
+            self._table.keep_only([(path, *self._noted(path)) for path in {**gone, **unmarked} if path not in whys
                                    and self._target.look(self._job.copy_of(path)) is not None])
         self._table.forget(marked)
         self._table.forget_copies([path for path in unmarked if path not in whys])
@@ -307,6 +307,12 @@ class Run:
                 say(f"NoMark: {shown(each)}: {why}")
                 return why
         return None
+
+    def _noted(self, path: bytes) -> Tuple[Optional[str], Optional[str]]:
+        """The digests that the marks at the copy of a fax and at its fields have."""
+        assert self._target is not None
+        name = self._job.copy_of(path)
+        return files.noted_digest(self._target, name), files.noted_digest(self._target, name + FIELDS)
 
     def _do_all(self) -> None:
         """Does what is due."""

@@ -303,7 +303,7 @@ class Table(OnlyCopies):
         self._base.executemany(
             "INSERT INTO deleted SELECT path, faxes.size, faxes.mtime, digest, ? FROM faxes JOIN copies USING (path) "
             "WHERE path = ?", ((0, kept_path(path)) for path in paths))
-        self.keep_only(paths)
+        self.keep_only((path, None, None) for path in paths)
         self.forget(paths)
         self.commit_all()
         return rows
