@@ -189,8 +189,8 @@ def other_paths(room: Room, *_given: object) -> None:
 
 
 def header(room: Room, *_given: object) -> None:
-    """Each bit of what says which version a table is of, and how it is written, is found where it has turned, or changes
-    nothing."""
+    """Each bit of what says which version a table is of, and how it is written, is found where it has turned, or
+    changes nothing."""
     place = room("damaged-header")
     made(place)
     table, rows = f"{place}/t.sqlite", all_of(f"{place}/t.sqlite")
@@ -203,7 +203,7 @@ def header(room: Room, *_given: object) -> None:
         with open(table, "wb") as file:
             file.write(data)
         ran = playing.run(words_of(place), place, playing.Trouble())
-        if ran.status == 3 and any(it in ran.error for it in ("is damaged: ", "another program, or of a later version")):
+        if ran.status == 3 and any(it in ran.error for it in ("is damaged: ", "another program, or of a later")):
             said += 1
             error = playing.run(["table", table, "--csv"], place, playing.Trouble()).error
             room.claim(f"header, bit {bit}, as table says it: {error}", "makes it one" in error, False)

@@ -403,7 +403,8 @@ def foreign(room: Room, *_given: object) -> None:
             base.commit()
         with open(path, "rb") as file:
             before = file.read()
-        for words in (["check", "foreign/tree", "--table", path], ["merge", path, path + "-part"], ["table", path, "--csv"]):
+        for words in (["check", "foreign/tree", "--table", path], ["merge", path, path + "-part"],
+                      ["table", path, "--csv"]):
             if words[0] == "merge":
                 room.run("check", "foreign/tree", "--table", path + "-part")
             status, _, error = room.run(*words)

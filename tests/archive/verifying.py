@@ -257,8 +257,8 @@ def turned_before_delete(room: Room, *_given: object) -> None:
         playing.run(given, place, playing.Trouble())
         put(f"{place}/tree/b.tif", wrong, mtime=TIME)
         ran = playing.run([*given, "--delete", *words], place, playing.Trouble())
-        room.claim(f"{words}: {ran.error}", (ran.status, os.listdir(f"{place}/tree"), "Changed: b.tif: it has other bytes" in
-                   ran.error), (3, ["b.tif"], True))  # fmt: skip
+        room.claim(f"{words}: {ran.error}", (ran.status, os.listdir(f"{place}/tree"),
+                   "Changed: b.tif: it has other bytes" in ran.error), (3, ["b.tif"], True))  # fmt: skip
         told = json.loads(room.run("table", f"{place}/t.sqlite", "--summary")[1])
         room.claim("it is counted", told["stays"], {"Changed": 1})
 
@@ -305,8 +305,8 @@ def not_opened(room: Room, *_given: object) -> None:
     os.chmod(room.folder, 0o755)
     ran = verify(place, "--names", trouble=playing.Trouble(other_user=True))
     os.chmod(room.folder, before & 0o777)
-    room.claim("closed", (ran.status, ran.out, ran.error.count("\n"), f"{place}/copies: Permission denied" in ran.error), (
-        3, "", 1, True))  # fmt: skip
+    named = f"{place}/copies: Permission denied" in ran.error
+    room.claim("closed", (ran.status, ran.out, ran.error.count("\n"), named), (3, "", 1, True))
     room.claim("nothing is said of them", figures(room, place), {"good": 0, "NotVerified": 3})
 
 

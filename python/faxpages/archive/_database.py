@@ -174,7 +174,7 @@ class Database:
             raise Damaged(f"{self.name} is damaged: {damage[0]}")
 
     def _not_of_its_version(self) -> List[str]:
-        """What is said of a table of an earlier version that has what only a later one kept; nothing where it has not."""
+        """What is said of a table that has what only later versions than its own kept; nothing where it has none."""
         later = {0: "copies", _BEFORE: "originals", _BEFORE_DIGESTS: "originals"}.get(self._format())
         found = self._base.execute("SELECT 1 FROM sqlite_master WHERE name = ?", (later,)).fetchone()
         return ["its version is another one than it was written by"] if found is not None else []

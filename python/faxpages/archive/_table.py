@@ -397,9 +397,9 @@ class Table(OnlyCopies):
         self._base.execute("DELETE FROM waiting")
         self._base.execute(
             "INSERT INTO waiting SELECT CAST(path AS BLOB), faxes.size, faxes.mtime, ifnull(copies.digest, ''), "
-            "ifnull(fields_digest, ''), ifnull(ours, 0) AND ifnull(fields_ours, 1), iif(originals.size = faxes.size AND "
-            "originals.mtime = faxes.mtime, ifnull(originals.digest, x''), x'') FROM faxes LEFT JOIN copies USING (path) "
-            "LEFT JOIN originals USING (path) WHERE status = ?", (GOOD,))
+            "ifnull(fields_digest, ''), ifnull(ours, 0) AND ifnull(fields_ours, 1), iif(originals.size = faxes.size "
+            "AND originals.mtime = faxes.mtime, ifnull(originals.digest, x''), x'') FROM faxes LEFT JOIN copies "
+            "USING (path) LEFT JOIN originals USING (path) WHERE status = ?", (GOOD,))
 
     def not_good(self) -> Iterator[bytes]:
         """The faxes that are not good."""

@@ -11,8 +11,8 @@ from typing import TYPE_CHECKING, Dict, FrozenSet, List, Optional, Set, Tuple
 
 from tests.archive.drawn.contents import Verdict, digest
 from tests.archive.drawn.model import (
-    GOOD, NOT_READ, Fax, Job, Model, Original, Row, Stood, Words, about_to_go, deleted_in, has_turned, originals_of, rows_of,
-    see, status_of, where_in,
+    GOOD, NOT_READ, Fax, Job, Model, Original, Row, Stood, Words, about_to_go, deleted_in, has_turned, originals_of,
+    rows_of, see, status_of, where_in,
 )
 from tests.archive.drawn.playing import Ran, Trouble
 from tests.archive.drawn.world import Entry, World, folded, snapshot
@@ -30,7 +30,7 @@ class Difference(Exception):
 
 
 class Before:
-    """All that stood when a run began; where a table is named, what that one says is taken for what the run's own says."""
+    """All that stood when a run began; where a table is named, what that one says is taken for what its own says."""
 
     def __init__(self, world: World, job: Job, other_user: bool, table: Optional[str] = None) -> None:
         self.tree, self.target, self.outside = (snapshot(it) for it in (world.tree, world.target, world.outside))
@@ -366,7 +366,8 @@ class Comparison:
             # What versions before 1.6 deleted, whose copies they did not mark.
             for path, (name, data) in self.model.left.pop(self.job.table, {}).items():
                 there = target.get(name)
-                if path not in self.before.seen.faxes and there is not None and (there.kind, there.data) == ("file", data):
+                same = there is not None and (there.kind, there.data) == ("file", data)
+                if path not in self.before.seen.faxes and same:
                     only[name] = data
         gone = set(self.before.rows) - set(self.after.rows) - set(self.after.tree)
         for path in deleted | gone:

@@ -19,8 +19,8 @@ OTHER, OTHER_KINDS = 2, ("Unsupported", "Magic", "ByteOrder")
 
 
 class Content(NamedTuple):
-    """The bytes of a fax, what a converted copy of it lacks, by how it was made, and the same with a bit that has turned:
-    so that it has other rows, other fields, or a fault."""
+    """The bytes of a fax, what a converted copy of it lacks, by how it was made, and the same with a bit that has
+    turned: so that it has other rows, other fields, or a fault."""
 
     data: bytes
     lacks: FrozenSet[str] = frozenset()

@@ -35,7 +35,7 @@ Rows = Dict[str, List[str]]
 
 
 def turned(rng: random.Random, data: bytes) -> bytes:
-    """A table some bits of which have turned, mostly of bytes that are not 0, as most of those that nothing uses are."""
+    """A table some bits of which have turned, mostly of bytes that are not 0, as those are that nothing uses."""
     found, used = bytearray(data), [place for place, byte in enumerate(data) if byte]
     for _ in range(rng.choice([1, 1, 1, 4, 30])):
         way = rng.random()

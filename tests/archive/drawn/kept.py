@@ -75,8 +75,8 @@ class KeptOnes:
         self.perhaps.add(path)
 
     def note(self, run: Comparison, deleted: Set[bytes]) -> None:
-        """Notes what a run has made the only copies: those of the faxes that it has deleted, which the table knew before
-        they went, and of those that it has found gone, where a copy stood."""
+        """Notes what a run has made the only copies: those of the faxes that it has deleted, which the table knew
+        before they went, and of those that it has found gone, where a copy stood."""
         for path in deleted:
             self.keep(path, _of_deleted(run, path))
         for path in set(run.before.rows) - set(run.after.rows) - deleted:

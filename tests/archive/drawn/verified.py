@@ -37,7 +37,8 @@ def only_in(table: str) -> Dict[bytes, Only]:
 class Verification:
     """One verification: all that stood before it, its words, and how it ended."""
 
-    def __init__(self, episode: Episode, job: Job, words: List[str], trouble: Trouble, before: Before, ran: Ran) -> None:
+    def __init__(self, episode: Episode, job: Job, words: List[str], trouble: Trouble, before: Before,
+                 ran: Ran) -> None:
         self.episode, self.job, self.words, self.trouble, self.before, self.ran = (
             episode, job, words, trouble, before, ran)
         self.kept = episode.model.kept_by(job.table)
@@ -97,7 +98,7 @@ class Verification:
             its = found[path]
             self.claim(its.digest == hashlib.sha256(kept.data).hexdigest(), f"the digest of {path!r}")
             if kept.fields is not None:
-                self.claim(its.fields == hashlib.sha256(kept.fields).hexdigest(), f"the digest of the fields of {path!r}")
+                self.claim(its.fields == hashlib.sha256(kept.fields).hexdigest(), f"the digest of {path!r}.fields")
             self.claim(its.fault in results[path], f"{path!r} is {its.fault!r}, wanted {results[path]}")
         others = set(found) - set(self.kept.sure) - self.kept.perhaps
         self.claim(not others or self.kept.others, f"no only copies: {others}")
