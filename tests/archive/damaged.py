@@ -180,6 +180,8 @@ def unreadable(room: Room, *_given: object) -> None:
     """Where the names of tables, or what makes them, are no text any more, this is damage like any other."""
     count = found_at_each(room, "damaged-schema", rb"CREATE TABLE|tablefaxes", 7, 0x80)
     room.claim("the tables are named", count > 3)
+    count = found_at_each(room, "damaged-columns", rb"deleted REAL|unread INTEGER|digest TEXT|words TEXT", 1, 0x02)
+    room.claim("the columns are named", count > 3)
 
 
 def other_paths(room: Room, *_given: object) -> None:
@@ -197,7 +199,7 @@ def header(room: Room, *_given: object) -> None:
     with open(table, "rb") as file:
         whole = file.read()
     said = 0
-    for bit in [8 * byte + bit for byte in (18, 19, *range(60, 64)) for bit in range(8)]:
+    for bit in [8 * byte + bit for byte in (18, 19, 47, *range(60, 64)) for bit in range(8)]:
         data = bytearray(whole)
         data[bit // 8] ^= 1 << bit % 8
         with open(table, "wb") as file:

@@ -77,7 +77,7 @@ _OLD_ROWS = ", ".join({
 PUT_COPY = "INSERT OR REPLACE INTO copies VALUES (?, ?, ?, ?, ?, ?, ?, ?, ?)"
 
 # What SQLite says of a database with tables or texts that are none.
-_OF_DAMAGE = ("no such", "decode", "user-defined", "malformed")
+_OF_DAMAGE = ("no such", "decode", "user-defined", "malformed", "unsupported file format")
 _BEGINNING = b"SQLite format 3\0"
 # Where a database says by which journal it is written.
 _WAY = 18
@@ -203,8 +203,9 @@ class Database:
             "SELECT name, value FROM job NOT INDEXED WHERE name != 'sum' ORDER BY +name")]
 
     def _sum_of_job(self) -> int:
-        """The sum of what the table says of itself, and of its last run."""
-        return sum_of(*self._job(), *self._base.execute("SELECT * FROM runs ORDER BY number DESC LIMIT 1"))
+        """The sum of what the table says of itself, of its last run, and of what tables it has."""
+        return sum_of(*self._job(), *self._base.execute("SELECT * FROM runs ORDER BY number DESC LIMIT 1"),
+                      *self._base.execute("SELECT type, name, tbl_name, sql FROM sqlite_master ORDER BY rowid"))
 
     def touch(self, paths: Iterable[Path]) -> None:
         """Notes that these rows change, so that their sums are made anew before they are committed."""

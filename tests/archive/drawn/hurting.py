@@ -24,7 +24,8 @@ if TYPE_CHECKING:
 
 # What sums say of a table, and what they do not.
 COVERED = {"faxes": "*", "times": "*", "copies": "*", "originals": "*", "job": "*",
-           "only_copies": "path, digest, fields_digest", "runs": "max(number), command, words, began, ended, unread"}
+           "only_copies": "path, digest, fields_digest", "runs": "max(number), command, words, began, ended, unread",
+           "sqlite_master": "type, name, tbl_name, sql"}
 OTHERS = {"runs": "*", "deleted": "*", "only_copies": "*"}
 # The bytes at the beginning that are of the file and not of a table.
 HEAD = 100
@@ -52,7 +53,7 @@ def all_of(table: str, what: Dict[str, str]) -> Optional[Rows]:
             if base.execute("PRAGMA integrity_check").fetchone()[0] != b"ok":
                 return None
             return {name: sorted(map(repr, base.execute(f"SELECT {columns} FROM {name} NOT INDEXED")))
-                    for name, columns in what.items() if name == "job" or _has(base, name)}
+                    for name, columns in what.items() if name == "sqlite_master" or _has(base, name)}
     except (sqlite3.Error, UnicodeDecodeError):
         return None
 
