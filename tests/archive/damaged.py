@@ -180,6 +180,10 @@ def unreadable(room: Room, *_given: object) -> None:
     """Where the names of tables, or what makes them, are no text any more, this is damage like any other."""
     count = found_at_each(room, "damaged-schema", rb"CREATE TABLE|tablefaxes", 7, 0x80)
     room.claim("the tables are named", count > 3)
+    place = room("damaged-schema")
+    shutil.copy(f"{place}/copy.sqlite", f"{place}/t.sqlite")
+    ran = playing.run(words_of(place, "--renew"), place, playing.Trouble())
+    room.claim(f"and such a table is made anew: {ran.error}", (ran.status, "kept as" in ran.error), (0, True))
     count = found_at_each(room, "damaged-columns", rb"deleted REAL|unread INTEGER|digest TEXT|words TEXT", 1, 0x02)
     room.claim("the columns are named", count > 3)
 
@@ -188,6 +192,8 @@ def other_paths(room: Room, *_given: object) -> None:
     """Where one bit turns the path 20.tif into 28.tif, in a table or in its index alone, the row is found."""
     count = found_at_each(room, "damaged-path", rb"20\.tif", 1, 0x08)
     room.claim("the path stands in four tables and their indexes", count >= 8)
+    count = found_at_each(room, "damaged-deleted", rb"(?<!\d)3\.tif", 0, 0x04)
+    room.claim("so does that of one that was deleted, in two", count >= 4)
 
 
 def header(room: Room, *_given: object) -> None:

@@ -189,7 +189,7 @@ class Database:
                      *(f"{name} NOT INDEXED WHERE path NOT IN (SELECT path FROM faxes)"
                        for name in ("times", "copies", "originals")),
                      *(_UNLIKE_ITS_INDEX.format(name)
-                       for name in ("faxes", "times", "copies", "originals", "only_copies")),
+                       for name in ("faxes", "times", "copies", "originals", "only_copies", "deleted")),
                      f"only_copies WHERE sum IS NOT {ONLY_SUM}"):
             count, path = self._base.execute(f"SELECT count(*), min(path) FROM {rows}").fetchone()
             if count:

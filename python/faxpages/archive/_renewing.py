@@ -124,6 +124,6 @@ def _numbers(base: sqlite3.Connection) -> Set[str]:
 
 def _some(base: sqlite3.Connection, query: str) -> Iterator[List[Tuple[Any, ...]]]:
     """The rows of a query, up to the first one that cannot be read."""
-    with contextlib.suppress(sqlite3.Error):
+    with contextlib.suppress(sqlite3.Error, UnicodeDecodeError):
         for row in base.execute(query):
             yield [row]
