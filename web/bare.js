@@ -7,18 +7,17 @@
  *     isFine: boolean | null }} Bare where nobody says the resolution, it is guessed by the number of rows
  */
 
-/** Makes a fax of raw PBM, or of bare T.4 or T.6 data. */
+/** Makes a fax of raw PBM, or of bare T.4 or T.6 data: these step by step, so that other calls come in between. */
 class Importing {
     /** A page has so many rows at most. */
     static MOST_ROWS = 1000000;
     /** A page of fewer rows has the standard resolution, as a rule: A4 has 1,146 rows so, and 2,292 in fine. */
     static FINE = 1400;
 
-    /** @param {WebAssembly.Module} module @param {Library} source @param {() => Promise<void>} pause */
-    constructor(module, source, pause) {
+    /** @param {WebAssembly.Module} module @param {Library} source */
+    constructor(module, source) {
         this.module = module;
         this.source = source;
-        this.pause = pause;
     }
 
     /** Of raw PBM. */
@@ -38,9 +37,9 @@ class Importing {
 
     /** Of bare data: a TIFF file of one page around them, with what is left of that page.
      * @param {Bare} bare */
-    async bare(bare) {
+    *bare(bare) {
         const isAlone = bare.coding === Library.MMR ? bare.isAligned : !bare.hasEols;
-        const found = isAlone ? await this.rowByRow(bare) : this.salvaged(bare);
+        const found = isAlone ? yield* this.rowByRow(bare) : this.salvaged(bare);
         if (found.rows === 0) {
             const name = this.source.name("fault", found.fault);
             return { library: null, left: null, coded: bare, told: { rows: 0, name } };
@@ -67,10 +66,10 @@ class Importing {
 
     /** What is left of data whose rows are read one by one, up to the first fault, coded anew in MMR.
      * @param {Bare} bare */
-    async rowByRow(bare) {
+    *rowByRow(bare) {
         const { source } = this;
         const stride = (bare.width + 7) >> 3;
-        const { pieces, fault } = await this.rowsOf(bare);
+        const { pieces, fault } = yield* this.rowsOf(bare);
         const rows = pieces.length;
         // A raster of more rows than have room has those alone that were found, and the next one.
         const hasRoom = bare.rows > 0 && bare.rows * stride <= Library.MOST_BYTES;
@@ -91,7 +90,7 @@ class Importing {
 
     /** The rows of such data, and the fault that ends them, or 0.
      * @param {Bare} bare */
-    async rowsOf(bare) {
+    *rowsOf(bare) {
         const { source } = this;
         const stride = (bare.width + 7) >> 3;
         const form = [bare.width, bare.rows, bare.coding, bare.order, 0];
@@ -111,7 +110,7 @@ class Importing {
                 return { pieces, fault: this.endOf(told, pieces.length, bare, cursor) };
             }
             if (pieces.length % 500 === 499) {
-                await this.pause();
+                yield;
             }
         }
         return { pieces, fault: bare.rows ? 0 : Library.TOO_MANY_ROWS };
@@ -220,14 +219,14 @@ class Guessing {
     }
 
     /** How data are coded, or nothing, if they do not look like a fax.
-     * @param {string} name of the file @returns {Promise<Bare | null>} */
-    async guess(name) {
+     * @param {string} name of the file @returns {Generator<void, Bare | null, void>} */
+    *guess(name) {
         const { length } = this.library;
         this.library.length = Math.min(length, Guessing.BYTES);
         let best = { found: 0, bare: /** @type {Bare | null} */ (null) };
         for (const width of Guessing.WIDTHS) {
             for (const bare of Guessing.ways(width)) {
-                const found = await this.found(bare);
+                const found = yield* this.found(bare);
                 if (found > best.found && (found >= Guessing.least(bare) || Guessing.NAMES.test(name))) {
                     best = { found, bare };
                 }
@@ -258,12 +257,12 @@ class Guessing {
 
     /** How many of the first rows are found.
      * @param {Bare} bare */
-    async found(bare) {
+    *found(bare) {
         const { library } = this;
-        await this.importing.pause();
+        yield;
         const counted = { ...bare, rows: Guessing.ROWS };
         if (bare.coding === Library.MMR ? bare.isAligned : !bare.hasEols) {
-            return (await this.importing.rowsOf(counted)).pieces.length;
+            return (yield* this.importing.rowsOf(counted)).pieces.length;
         }
         const { all, lost } = library.salvageStrip(library.file, library.length,
             [bare.width, Guessing.ROWS, bare.coding, bare.order, 0]);

@@ -71,7 +71,7 @@ class LostRows {
 class Fax extends Known {
     /** The classes that a worker is made of. */
     static WORKER = [
-        Library, Cursor, Form, Left, Salvaging, Kinds, Reading, Drawing, Shrunk, Cells, Pdf, Png, Rows, Saving,
+        Library, Writing, Cursor, Form, Left, Salvaging, Kinds, Reading, Drawing, Shrunk, Cells, Pdf, Png, Rows, Saving,
         Importing, Wrapping, Guessing, Broken, FaxWorker,
     ];
     static ids = 0;

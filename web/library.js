@@ -124,11 +124,11 @@ class Library {
             this.rows, Math.min(most, Library.ROWS), this.out, Library.OUT, this.told));
     }
 
-    /** The packed bytes of a row that was read last, its page and its number.
+    /** The packed bytes of a row that was read last, its page, its number and its width.
      * @param {number} index */
     row(index) {
-        const [at, length, page, row] = this.numbers(this.rows + 20 * index, 4);
-        return { page, row, bytes: this.bytes(this.out + at, length) };
+        const [at, length, page, row, width] = this.numbers(this.rows + 20 * index, 5);
+        return { page, row, width, bytes: this.bytes(this.out + at, length) };
     }
 
     /** Reads all rows, and tells how many there are, notes on them and the first fault.
@@ -176,16 +176,6 @@ class Library {
         }
         const image = this.numbers(this.told, 4)[2];
         return { status, at, length, image, fault: this.faultAt(this.told + 16) };
-    }
-
-    /** Codes a raster of this form as a page, and adds it to a file of which `written` tells how far it is. `status`
-     * is NO_ROOM where the file needs more room.
-     * @param {Uint32Array} form @param {number} raster @param {number} stride
-     * @param {{ at: number, size: number }} file @param {number} written */
-    addPage(form, raster, stride, file, written) {
-        const at = this.room("form", 4 * Library.FORM_NUMBERS);
-        this.numbers(at, Library.FORM_NUMBERS).set(form);
-        return this.calls.faxpages_add_page(at, 4, raster, form[1] * stride, stride, file.at, file.size, written);
     }
 
     /** Codes a raster as a strip of MMR, and answers where it stands.
@@ -285,6 +275,67 @@ class Library {
     }
 }
 
+/** A TIFF-F file that is written page by page, in memory that grows. */
+class Writing {
+    /** @param {Library} library @param {number} total how many pages it will have, or 0 */
+    constructor(library, total) {
+        this.library = library;
+        this.total = total;
+        this.count = 0;
+        this.told = library.room("written", 16);
+        library.numbers(this.told, 4).set([0, 0, total, 0]);
+        this.file = { at: library.take(1 << 20), size: 1 << 20 };
+    }
+
+    /** How many bytes it has so far. */
+    get length() {
+        return this.library.numbers(this.told, 1)[0];
+    }
+
+    /** Codes a raster of this form as a page, and adds it.
+     * @param {Uint32Array} form @param {number} raster @param {number} stride */
+    add(form, raster, stride) {
+        const { library, told } = this;
+        const at = library.room("form", 4 * Library.FORM_NUMBERS);
+        library.numbers(at, Library.FORM_NUMBERS).set(form);
+        const size = form[1] * stride;
+        for (;;) {
+            const { file } = this;
+            const status = library.calls.faxpages_add_page(at, 4, raster, size, stride, file.at, file.size, told);
+            if (status === Library.DONE) {
+                this.count++;
+                return;
+            }
+            this.grow(status, size);
+        }
+    }
+
+    /** Gives the file more room, with what it has.
+     * @param {number} status @param {number} more */
+    grow(status, more) {
+        if (status !== Library.NO_ROOM && status !== Library.TOO_LARGE) {
+            throw Library.refusal(status);
+        }
+        if (status === Library.TOO_LARGE || this.file.size >= Library.MOST_BYTES) {
+            throw new RangeError("the file would be too large");
+        }
+        const size = Math.min(Library.MOST_BYTES, 2 * this.file.size + more);
+        const at = this.library.take(size);
+        this.library.bytes(at, this.length).set(this.library.bytes(this.file.at, this.length));
+        this.file = { at, size };
+    }
+
+    /** Where the file stands, once its pages know how many they are. */
+    end() {
+        const { library, file, told } = this;
+        const status = this.total ? Library.DONE : library.calls.faxpages_end_pages(file.at, file.size, told);
+        if (status !== Library.DONE) {
+            throw Library.refusal(status);
+        }
+        return { at: file.at, length: this.length };
+    }
+}
+
 /** A place in the file of a library, and the runs of the row before it. */
 class Cursor {
     /** @param {Library} library @param {number} at */
@@ -359,6 +410,22 @@ class Form {
     /** How many times as high as wide a pel is. */
     get shape() {
         return this.across > 0 && this.down > 0 ? this.across / this.down : 1;
+    }
+
+    /** How often a pel is drawn across, and a row down, so that a page has its proportions in square pels.
+     * @returns {[number, number]} */
+    get repeats() {
+        const times = (/** @type {number} */ ratio) => (ratio < 1.5 ? 1 : ratio > 4 ? 4 : Math.floor(ratio + 0.5));
+        return this.across > 0 && this.down > 0
+            ? [times(this.down / this.across), times(this.across / this.down)] : [1, 1];
+    }
+
+    /** The form of a page that is written in a coding: in one strip, the highest bit first, black as black.
+     * @param {number} coding */
+    written(coding) {
+        const numbers = this.numbers.slice();
+        numbers.set([coding, 1, 0, 0, this.rows, 1], 2);
+        return numbers;
     }
 
     /** The line that `faxpages list` prints.

@@ -101,18 +101,10 @@ class Png {
         this.pause = pause;
     }
 
-    /** How often a pel is drawn across, and a row down.
-     * @param {Form} form */
-    static repeats(form) {
-        const times = (/** @type {number} */ ratio) => (ratio < 1.5 ? 1 : ratio > 4 ? 4 : Math.floor(ratio + 0.5));
-        return form.across > 0 && form.down > 0
-            ? [times(form.down / form.across), times(form.across / form.down)] : [1, 1];
-    }
-
     /** @param {number} page */
     async blob(page) {
         const form = this.drawing.library.form(page);
-        const [across, down] = form ? Png.repeats(form) : [1, 1];
+        const [across, down] = form?.repeats ?? [1, 1];
         if (!form || form.width * across * form.rows * down > Png.MOST_PELS) {
             throw new Error(`page ${page + 1} is too large for a picture`);
         }

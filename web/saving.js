@@ -89,47 +89,17 @@ class Saving {
     /** The pages as TIFF-F in a coding.
      * @param {number[]} pages @param {number} coding */
     async tiff(pages, coding) {
-        const written = this.made.room("written", 16);
-        this.made.numbers(written, 4).set([0, 0, pages.length, 0]);
-        let file = { at: this.made.take(1 << 20), size: 1 << 20 };
+        const writing = new Writing(this.made, pages.length);
         for (const [done, page] of pages.entries()) {
             const form = this.formOf(page);
-            const raster = await this.rasterOf(page, form);
-            const numbers = Saving.written(form, coding);
-            for (;;) {
-                const status = this.made.addPage(numbers, raster, form.stride, file, written);
-                if (status === Library.DONE) {
-                    break;
-                }
-                file = this.moreRoom(status, file, this.made.numbers(written, 1)[0], form);
-            }
+            writing.add(form.written(coding), await this.rasterOf(page, form), form.stride);
             this.tell(done + 1, 2 * pages.length);
         }
-        const length = this.made.numbers(written, 1)[0];
-        this.made.file = file.at;
+        const { at, length } = writing.end();
+        this.made.file = at;
         this.made.length = length;
         await this.compareFile(pages);
-        return new Blob([this.made.bytes(file.at, length)], { type: "image/tiff" });
-    }
-
-    /** The form of a page that is written: in one strip, the highest bit first, black as black.
-     * @param {Form} form @param {number} coding */
-    static written(form, coding) {
-        const numbers = form.numbers.slice();
-        numbers.set([coding, 1, 0, 0, form.rows, 1], 2);
-        return numbers;
-    }
-
-    /** A larger room for the file, with what it has.
-     * @param {number} status @param {{ at: number, size: number }} file @param {number} length @param {Form} form */
-    moreRoom(status, file, length, form) {
-        if (status !== Library.NO_ROOM || file.size >= Library.MOST_BYTES) {
-            throw new Error(status === Library.MEMORY ? "memory was refused" : "the file would be too large");
-        }
-        const size = Math.min(Library.MOST_BYTES, 2 * file.size + form.stride * form.rows);
-        const at = this.made.take(size);
-        this.made.bytes(at, length).set(this.made.bytes(file.at, length));
-        return { at, size };
+        return new Blob([this.made.bytes(at, length)], { type: "image/tiff" });
     }
 
     /** Compares the file that was made with the pages that it was made of, row by row.

@@ -58,6 +58,18 @@ class FaxWorker {
         this.channel.port2.postMessage(0);
     });
 
+    /** Does something step by step, and lets other calls in between.
+     * @template T @param {Generator<void, T, void>} steps @returns {Promise<T>} */
+    async paced(steps) {
+        for (;;) {
+            const step = steps.next();
+            if (step.done) {
+                return step.value;
+            }
+            await this.pause();
+        }
+    }
+
     /** @param {any} asked */
     async answer(asked) {
         try {
@@ -153,7 +165,7 @@ class FaxWorker {
      * @returns {Promise<{ library: Library | null, left: Left | null }>} */
     async imported(file, bare) {
         const { library } = this;
-        const importing = new Importing(this.module, library, this.pause);
+        const importing = new Importing(this.module, library);
         const head = new Kinds(library).head(2);
         if (!bare && head === "P4") {
             const made = importing.images();
@@ -161,11 +173,11 @@ class FaxWorker {
             return made;
         }
         const isKnown = ["II", "MM"].includes(head) || new Kinds(library).ofFile("ByteOrder");
-        const coded = bare ?? (isKnown ? null : await new Guessing(library, importing).guess(file.name));
+        const coded = bare ?? (isKnown ? null : await this.paced(new Guessing(library, importing).guess(file.name)));
         if (!coded) {
             return { library, left: null };
         }
-        const made = await importing.bare(coded);
+        const made = await this.paced(importing.bare(coded));
         this.send({ event: "bare", told: made.told, coded: made.coded, isGuessed: !bare });
         return made;
     }

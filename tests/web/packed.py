@@ -10,28 +10,46 @@ import os
 import re
 import shutil
 import subprocess
-import sys
 import tempfile
 from typing import Generator
 
 from tests import TOP, Claim
 from tests.convert.files import get, put
 from tests.documents import meanings
-from tests.web import bundled, faxes, later
+from tests.finding import found
+from tests.web import bundled, called, faxes, later
 
-TYPED = """import { FaxFault, Faxpages } from "faxpages";
-const faxpages: Faxpages = await Faxpages.load(new Uint8Array(8));
-const widths: number[] = faxpages.list(new Uint8Array(0)).pages.map((page) => page.width);
-const fault: FaxFault | null = faxpages.check(new Uint8Array(0)).fault;
-for (const { bytes } of faxpages.rows(new Uint8Array(0))) bytes.subarray(1);
-for (const { lost } of faxpages.salvage(new Uint8Array(0))) lost.map((it) => it.rows + widths.length);
-export const bad: number | null = faxpages.received(new Uint8Array(0), 0).badRows;
-export const made: Uint8Array = faxpages.convert(new Uint8Array(0), "mmr");
-export const name: string = fault === null ? "" : fault.fault;
+TYPED = """import { Faxpages, FaxFault } from "faxpages";
+async function tried(): Promise<void> {
+    const faxpages: Faxpages = await Faxpages.load(new Uint8Array(8));
+    const widths: number[] = faxpages.list(new ArrayBuffer(0)).pages.map((page) => page.width);
+    const fault: FaxFault | null = faxpages.check(new DataView(new ArrayBuffer(0))).fault;
+    for (const { bytes } of faxpages.rows(new Uint8Array(0))) bytes.subarray(1);
+    for (const { runs } of faxpages.runs(new Uint8Array(0))) runs.map((run) => run + 1);
+    for (const { lost } of faxpages.salvage(new Uint8Array(0))) lost.map((it) => it.rows + widths.length);
+    const made: Uint8Array = faxpages.convert(new Uint8Array(0), "mmr");
+    const written: Uint8Array = faxpages.write([...faxpages.salvage(made)].filter(({ form }) => form), "mr");
+    const one: Uint8Array = faxpages.write([{ form: { width: 8, rows: 1, down: 98 }, raster: written }]);
+    const data: Uint8ClampedArray = faxpages.rgba(one, 0, { square: false }).data;
+    const coding: "mh" | "mr" | "mmr" = faxpages.bare(data, { coding: "mh", eols: false }).how.coding;
+    const name: string = fault === null ? coding : fault.fault + fault.name;
+    name.trim();
+}
+tried().then(() => Faxpages.TARGETS.indexOf("pbm"));
 """
-WRONG = """import { Faxpages } from "faxpages";
-(await Faxpages.load()).convert(new Uint8Array(0), "gif");
+# Each line is refused by itself.
+WRONG = """faxpages.convert(new Uint8Array(0), "gif")
+faxpages.list("fax.tif")
+faxpages.check([1, 2, 3])
+faxpages.bare(new Uint8Array(0), { width: 8 })
+faxpages.write(faxpages.list(new Uint8Array(0)).pages)
+faxpages.opened(new Uint8Array(0))
+Faxpages.load("faxpages.wasm")
 """
+# What a user sees of the package, and what of it is inside.
+SEEN = ["BareFax", "Bytes", "FaxFault", "Faxpages", "HowCoded", "Lost", "Note", "Page", "PageToWrite", "Picture", "Row",
+        "Runs", "Salvaged"]
+INSIDE = re.compile(r"Library|Cursor|WebAssembly\.Memory|faultOf|takeFile")
 
 
 def run(folder: str, *words: str) -> tuple[int, str]:
@@ -61,11 +79,14 @@ def claims(program: str) -> Generator[Claim, None, None]:
             f"{room}/user/node_modules/faxpages/faxpages.wasm") == module_of_the_page(), True
         yield "npm: its licence names what is inside the module", get(
             f"{room}/user/node_modules/faxpages/LICENSE"), get(f"{TOP}/licences/web.txt").partition(b"\n")[2]
+        yield from described(f"{room}/user")
         yield from types(f"{room}/user")
         yield from explains(f"{room}/user")
-        yield from receives(f"{room}/user")
         yield from later.in_node(f"{room}/user", run)
         yield from readme_reads(program, f"{room}/user")
+        yield from called.example(program, f"{room}/user", run)
+        yield from called.claims(program, f"{room}/user", room, run)
+        yield from called.shaken(f"{room}/user")
         yield from as_the_program(program, f"{room}/user", room)
 
 
@@ -85,19 +106,6 @@ def explains(folder: str) -> Generator[Claim, None, None]:
         True, (0, "\n".join([*known.values(), "A fault of a later version.", ""])))
 
 
-def receives(folder: str) -> Generator[Claim, None, None]:
-    """What the receivers of drawn pages counted is what the plain reading finds."""
-    drawn = subprocess.run([sys.executable, f"{TOP}/tests/library/receivers.py", "500"], capture_output=True, check=True)
-    put(f"{folder}/receivers", drawn.stdout)
-    shutil.copy(f"{TOP}/tests/web/received-in-node.mjs", folder)
-    pages = [line.split()[1:7] for line in drawn.stdout.decode().splitlines()]
-    there = [numbers for status, _, _, *numbers in pages if status == "0"]
-    found = sum(number != "-" for numbers in there for number in numbers)
-    yield "npm: many receivers counted", len(there) > 500 and found > 1000, True
-    yield "npm: what receivers counted is told", run(folder, "node", "received-in-node.mjs", "receivers"), (
-        0, f"{len(pages)} pages, {len(there)} there, {found} numbers\n")
-
-
 def readme_reads(program: str, folder: str) -> Generator[Claim, None, None]:
     """The first lines of the README, fewer than ten, read a damaged fax."""
     lines = get(f"{TOP}/web/npm/README.md").decode().partition("```js\n")[2].partition("```")[0]
@@ -112,13 +120,35 @@ def readme_reads(program: str, folder: str) -> Generator[Claim, None, None]:
         r"(?m)^(?:row \d+ \d+|fault .*$)", wanted)
 
 
+def described(folder: str) -> Generator[Claim, None, None]:
+    """The package says what it is, where its sources are and on which Node it was tried; its types have what a user
+    calls, and nothing of what is inside."""
+    about = json.loads(get(f"{folder}/node_modules/faxpages/package.json"))
+    with open(f"{TOP}/rust/Cargo.toml", encoding="utf-8") as crate:
+        place = found(r'(?m)^repository = "(.*)"$', crate.read())[1]
+    yield "npm: its repository is the crate's", about["repository"], {"type": "git", "url": place}
+    yield "npm: it has keywords, and nothing happens by loading it", (len(about["keywords"]) > 5, about["sideEffects"]), (
+        True, False)
+    yield "npm: on which Node it works", about["engines"], {"node": ">=18"}
+    for name in ("faxpages.d.mts", "faxpages.d.cts"):
+        text = get(f"{folder}/node_modules/faxpages/{name}").decode()
+        yield f"npm: {name}: what is seen", sorted(re.findall(r"(?m)^export \w+ (\w+)", text)), SEEN
+        yield f"npm: {name}: nothing of what is inside", INSIDE.findall(text), []
+
+
 def types(folder: str) -> Generator[Claim, None, None]:
-    """The types are there, and refuse what is wrong."""
-    for name, text, is_right in (("right", TYPED, True), ("wrong", WRONG, False)):
-        put(f"{folder}/{name}.mts", text.encode())
-        status, said = run(folder, "tsc", "--noEmit", "--strict", "--target", "es2022", "--module", "node16",
-                           "--moduleResolution", "node16", "--lib", "es2022,dom", f"{name}.mts")
-        yield f"npm: types of what is {name}: {said}", status == 0, is_right
+    """The types are there for both kinds of modules, without those of a browser, and refuse what is wrong."""
+    wrong = [f'import {{ Faxpages }} from "faxpages";\nexport const tried = async () => {{\n    const faxpages = await '
+             f"Faxpages.load();\n    {line};\n    return faxpages;\n}};\n" for line in WRONG.splitlines()]
+    tried = [("right.mts", TYPED, True), ("right.cts", TYPED, True), *[
+        (f"wrong-{at}.mts", text, False) for at, text in enumerate(wrong)]]
+    for name, text, _ in tried:
+        put(f"{folder}/{name}", text.encode())
+    status, said = run(folder, "tsc", "--noEmit", "--strict", "--target", "es2022", "--module", "node16",
+                       "--moduleResolution", "node16", "--lib", "es2022", *[name for name, _, _ in tried])
+    yield "npm: types refuse something", status != 0, True
+    for name, text, is_right in tried:
+        yield f"npm: types of {name}: {text}: {said}", f"{name}(" in said, not is_right
 
 
 def as_the_program(program: str, folder: str, room: str) -> Generator[Claim, None, None]:
