@@ -385,7 +385,7 @@ class Fax extends Known {
     sayState(page) {
         const state = this.stateOf(page);
         const lost = this.lost.get(page);
-        return lost ? say(TEXTS.pages[state], sayCount(lost.rows, "row", "rows")) : TEXTS.pages[state];
+        return lost ? say(TEXTS.pages[state], sayCount(lost.rows, "row")) : TEXTS.pages[state];
     }
 
     /** What is wrong, or what is noted, page by page, and downwards: as many as are asked for, and how many there are.

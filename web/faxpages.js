@@ -33,11 +33,15 @@ class App {
         this.findings = new Findings((page, row) => this.goToFinding(page, row));
         /** Which reading of bare data the form shows. */
         this.asked = "";
-        this.view = new View(the("view"), (page) => this.follow(page));
+        this.languages = new Languages(the("language"), () => this.retell());
+        this.choosing = new Choosing(the("chosen"), () => this.print());
+        const smalls = new Smalls();
+        this.view = new View(the("view"), smalls, (page) => this.follow(page), () => this.renderZoom());
         this.printing = new Printing(this.view, { box: the("printed"), said: the("printing"),
             cancel: the("print-cancel") }, (text) => this.announce(text));
         this.hands = new Hands(this.view, (pages) => this.goTo(this.page + pages));
-        this.thumbs = new Thumbs(the("thumbs"), the("thumbs-all"), (page) => this.goTo(page));
+        this.thumbs = new Thumbs(the("thumbs"), the("thumbs-all"), smalls, (page) => this.goTo(page),
+            (page) => this.pick(page));
         this.keeping = new Keeping(the("keep"));
         App.fillTexts();
         this.listen();
@@ -45,6 +49,7 @@ class App {
         this.fold();
         this.render();
         this.restore();
+        this.embedding = new Embedding((files) => this.open(files));
     }
 
     /** Opens again what was open before the page was loaded again. */
@@ -68,14 +73,15 @@ class App {
         document.querySelectorAll("[data-text]").forEach((element) => {
             element.textContent = texts[/** @type {HTMLElement} */ (element).dataset.text ?? ""];
         });
-        the("print-pages").placeholder = TEXTS.printing.all;
+        the("chosen").placeholder = TEXTS.printing.all;
         the("filter").placeholder = TEXTS.files.part;
         the("keep").title = the("keep").parentElement.title = TEXTS.keeping;
+        the("zoom").title = TEXTS.page.zoom;
         document.querySelectorAll("[data-label]").forEach((element) => {
             const label = texts[/** @type {HTMLElement} */ (element).dataset.label ?? ""];
             element.setAttribute("aria-label", label);
-            // Who sees a sign alone is told by the mouse what it does.
-            if (element.localName === "button") {
+            // Who sees a sign alone, or a short word, is told by the mouse what it means.
+            if (element.localName === "button" || element.localName === "input") {
                 element.setAttribute("title", label);
             }
         });
@@ -97,6 +103,7 @@ class App {
         on("copy", () => this.copy());
         on("print", () => this.print());
         on("marks", () => this.toggleMarks());
+        on("invert", () => this.invert());
         on("damaged", () => this.nextDamaged());
         on("stop", () => this.fax?.stop());
         on("notes", () => this.lookForNotes());
@@ -108,11 +115,8 @@ class App {
             this.goTo(the("page").valueAsNumber - 1);
             the("page").value = sayPage(this.page);
         });
-        the("print-pages").addEventListener("keydown", (/** @type {KeyboardEvent} */ event) => {
-            if (event.key === "Enter") {
-                this.print();
-            }
-        });
+        the("zoom").addEventListener("change", () => this.setPercent());
+        the("chosen").addEventListener("input", () => this.changed());
         for (const [id, does] of /** @type {[string, () => void][]} */ (
             [["bare", () => this.readBare()], ["save", () => this.save()]])) {
             the(id).addEventListener("submit", (/** @type {Event} */ event) => {
@@ -121,8 +125,10 @@ class App {
             });
         }
         the("keep").addEventListener("change", () => this.keeping.change(this.faxes));
-        addEventListener("pagehide", () => this.keeping.note({
-            shown: this.fax ? this.faxes.indexOf(this.fax) : 0, pages: this.faxes.map(({ at }) => at) }));
+        addEventListener("pagehide", () => {
+            const kept = this.faxes.filter((fax) => this.keeping.has(fax));
+            this.keeping.note({ shown: kept.findIndex((fax) => fax === this.fax), pages: kept.map(({ at }) => at) });
+        });
         document.addEventListener("keydown", (event) => this.key(event));
     }
 
@@ -210,7 +216,8 @@ class App {
     show(fax) {
         this.fax = fax;
         the("bare-said").textContent = "";
-        the("print-pages").value = the("printing").textContent = "";
+        this.choosing.clear();
+        this.printing.tell("");
         this.render();
         this.changed();
     }
@@ -237,7 +244,7 @@ class App {
             this.keeping.forget(fax.number);
         });
         this.show(null);
-        this.announce(say(TEXTS.announce.closed, sayCount(faxes.length, "file", "files")));
+        this.announce(say(TEXTS.announce.closed, sayCount(faxes.length, "file")));
     }
 
     /** The page that is shown: a file that was read anew may have fewer than before. */
@@ -325,10 +332,16 @@ class App {
             }
             this.renderPage(fax);
         }
-        this.thumbs.show(fax, this.page);
+        this.thumbs.show(fax, this.page, this.picked(fax));
         this.view.show(fax, this.page);
         this.makings.show(fax);
         this.settle(fax);
+    }
+
+    /** The pages that are named to be printed or saved.
+     * @param {Fax | null} fax */
+    picked(fax) {
+        return new Set(fax && this.choosing.field.value.trim() ? this.choosing.of(fax).pages : []);
     }
 
     /** Says aloud how a file is, once that is settled, and not at each step.
@@ -440,6 +453,7 @@ class App {
         }
         the("page").max = String(Math.max(1, fax.pages));
         the("of").textContent = say(texts.of, fax.pages);
+        this.renderZoom();
         the("before").disabled = this.page === 0;
         the("next").disabled = this.page >= fax.pages - 1;
         const resolution = form && form.across > 0 && form.down > 0 && TEXTS.units[form.unit]
@@ -477,9 +491,35 @@ class App {
         }
     }
 
+    /** The pages that are meant to be printed or saved; where what is named is none, that is said.
+     * @param {Fax} fax */
+    chosen(fax) {
+        const { pages, isSome } = this.choosing.of(fax);
+        const said = pages ? "" : say(TEXTS.printing.refused, fax.pages);
+        this.printing.tell(said);
+        if (said) {
+            this.announce(said);
+        }
+        return { pages, isSome };
+    }
+
     save() {
+        const { fax } = this;
+        if (fax) {
+            const { kind } = the("save").elements;
+            const { pages, isSome } = this.chosen(fax);
+            if (pages) {
+                this.makings.make(fax, kind.value, this.page, isSome ? pages : null);
+            }
+        }
+    }
+
+    /** Adds a page to those that are meant to be printed or saved, or takes it away.
+     * @param {number} page */
+    pick(page) {
         if (this.fax) {
-            this.makings.make(this.fax, the("save").elements.kind.value, this.page);
+            this.choosing.toggle(this.fax, page);
+            this.render();
         }
     }
 
@@ -523,14 +563,46 @@ class App {
         if (!fax || fax.isBusy() || fax.listed === 0) {
             return;
         }
-        const pages = Printing.chosen(the("print-pages").value, fax.shownPages());
-        if (pages && pages.length <= Printing.MOST) {
+        const { pages } = this.chosen(fax);
+        if (pages && pages.length > Printing.MOST) {
+            this.printing.tell(say(TEXTS.printing.tooMany, Printing.MOST));
+            this.announce(say(TEXTS.printing.tooMany, Printing.MOST));
+        } else if (pages) {
             this.printing.print(fax, pages);
-        } else {
-            const said = pages ? say(TEXTS.printing.tooMany, Printing.MOST) : say(TEXTS.printing.refused, fax.pages);
-            this.printing.tell(said);
-            this.announce(said);
         }
+    }
+
+    /** Shows white black, and black white, or as it is again; what is printed and saved stays as it is. */
+    invert() {
+        this.view.setInverted(!this.view.isInverted);
+        the("invert").setAttribute("aria-pressed", String(this.view.isInverted));
+    }
+
+    /** Shows how large the page is, but not while somebody types it. */
+    renderZoom() {
+        if (document.activeElement !== the("zoom")) {
+            the("zoom").value = `${this.view.percent}%`;
+        }
+    }
+
+    /** Makes the page as large as is typed: 150, or 150%. */
+    setPercent() {
+        const [, number] = /^\s*(\d+(?:[.,]\d+)?)\s*%?\s*$/.exec(the("zoom").value) ?? [];
+        const percent = Number(number?.replace(",", "."));
+        if (percent > 0) {
+            this.view.setPercent(percent);
+        }
+        the("zoom").value = `${this.view.percent}%`;
+    }
+
+    /** Says all in the language that was chosen. */
+    retell() {
+        App.fillTexts();
+        this.findings.forget();
+        this.makings.forget();
+        this.render();
+        this.renderReport();
+        this.view.mark();
     }
 
     /** Shows the marks beside the page, or hides them. */
@@ -546,7 +618,7 @@ class App {
         let done = 0;
         for (const [at, fax] of faxes.entries()) {
             the("all-said").textContent = say(TEXTS.saving.all, at + 1, faxes.length, sayName(fax.file.name));
-            await this.makings.make(fax, "pdf", 0);
+            await this.makings.make(fax, "pdf", 0, null);
             done += fax.making?.state === "ready" ? 1 : 0;
         }
         the("all-said").textContent = say(TEXTS.saving.allDone, done, faxes.length);
@@ -602,7 +674,7 @@ class App {
             "+": () => view.zoomBy(1), "=": () => view.zoomBy(1), "-": () => view.zoomBy(-1),
             0: () => view.setZoom("whole"), w: () => view.setZoom("wide"), 1: () => view.setZoom(1 / devicePixelRatio),
             r: () => view.turn(1), l: () => view.turn(-1), f: () => this.nextFinding(), d: () => this.nextDamaged(),
-            c: () => this.copy(), s: () => this.fill(), m: () => this.toggleMarks(),
+            c: () => this.copy(), s: () => this.fill(), m: () => this.toggleMarks(), i: () => this.invert(),
         };
     }
 

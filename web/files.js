@@ -59,7 +59,7 @@ class Files {
         const looks = /** @type {Record<string, string>} */ (TEXTS.looks);
         const parts = Object.keys(looks).filter((look) => counts.has(look)).map(
             (look) => `${counts.get(look)} ${looks[look]}`);
-        return `${sayCount(faxes.length, "file", "files")}: ${parts.join("; ")}`;
+        return `${sayCount(faxes.length, "file")}: ${parts.join("; ")}`;
     }
 
     /** Hides what the filter leaves out. */

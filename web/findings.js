@@ -23,6 +23,11 @@ class Findings {
         }
     }
 
+    /** Has it be listed anew, in other words. */
+    forget() {
+        this.shown = "";
+    }
+
     /** Lists what is known of a fax; whether that is more than was listed.
      * @param {Fax} fax */
     show(fax) {
@@ -81,8 +86,8 @@ class Findings {
         const summary = document.createElement("summary");
         const list = document.createElement("ul");
         const lost = found[0].isLost ? fax.lost.get(found[0].page) : null;
-        summary.textContent = lost ? say(TEXTS.findings.places, head, sayCount(lost.count, "place", "places"),
-            sayCount(lost.rows, "row", "rows")) : say(TEXTS.findings.other, head, found[0].head);
+        summary.textContent = lost ? say(TEXTS.findings.places, head, sayCount(lost.count, "place"),
+            sayCount(lost.rows, "row")) : say(TEXTS.findings.other, head, found[0].head);
         list.append(...found.map((finding) => {
             const place = document.createElement("li");
             place.append(Findings.button(finding, finding.head));

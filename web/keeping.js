@@ -125,6 +125,12 @@ class Keeping {
         }
     }
 
+    /** Whether a file is kept.
+     * @param {Fax} fax */
+    has({ number }) {
+        return this.sizes.has(number);
+    }
+
     /** Begins to keep what is open, or deletes it.
      * @param {Fax[]} faxes that are open */
     async change(faxes) {

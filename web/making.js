@@ -69,13 +69,15 @@ class Makings {
     }
 
     /** Makes a file of a fax, and offers it once it was read again and compared.
-     * @param {Fax} fax @param {string} kind @param {number} page */
-    async make(fax, kind, page) {
+     * @param {Fax} fax @param {string} kind @param {number} page that is looked at
+     * @param {number[] | null} chosen pages; all, if none are */
+    async make(fax, kind, page, chosen) {
         if (this.working) {
             return;
         }
-        const pages = kind === "png" ? [page] : kind === "pdf" ? fax.shownPages() : fax.wholePages();
-        const making = new Making(Makings.nameOf(fax, kind, page), this.changed);
+        const there = kind === "png" ? [page] : kind === "pdf" ? fax.shownPages() : fax.wholePages();
+        const pages = chosen && kind !== "png" ? there.filter((it) => chosen.includes(it)) : there;
+        const making = new Making(Makings.nameOf(fax, kind, page, chosen), this.changed);
         fax.setMaking(making);
         if (kind !== "text" && (pages.length === 0 || !fax.form(pages[0]))) {
             making.fail(TEXTS.saving.nothing);
@@ -90,7 +92,7 @@ class Makings {
             const blob = kind === "text" ? await fax.textBlob() : await fax.ask("save", words, tell);
             // What is made of an earlier reading, or of a file that was closed, is nobody's.
             if (fax.making === making) {
-                making.end(blob, Makings.saidOf(fax, kind, sayName(making.name), pages.length));
+                making.end(blob, Makings.saidOf(fax, kind, sayName(making.name), pages, chosen));
                 Makings.link(making, "").click();
             }
         } catch (error) {
@@ -103,22 +105,25 @@ class Makings {
         }
     }
 
-    /** @param {Fax} fax @param {string} kind @param {string} name @param {number} count */
-    static saidOf(fax, kind, name, count) {
-        const isLess = !["png", "text"].includes(kind) && count < fax.pages;
-        if (kind === "pdf" && !isLess && fax.lost.size) {
+    /** @param {Fax} fax @param {string} kind @param {string} name @param {number[]} pages
+     * @param {number[] | null} chosen */
+    static saidOf(fax, kind, name, pages, chosen) {
+        const wanted = chosen?.length ?? fax.pages;
+        const isLess = !["png", "text"].includes(kind) && pages.length < wanted;
+        if (kind === "pdf" && !isLess && pages.some((page) => fax.lost.has(page))) {
             return say(TEXTS.saving.grey, name);
         }
-        return isLess ? say(TEXTS.saving.less, name, count, sayCount(fax.pages, "page", "pages"))
+        return isLess ? say(TEXTS.saving.less, name, pages.length, sayCount(wanted, "page"))
             : say(kind === "text" ? TEXTS.saving.report : TEXTS.saving.ready, name);
     }
 
-    /** @param {Fax} fax @param {string} kind @param {number} page */
-    static nameOf(fax, kind, page) {
+    /** @param {Fax} fax @param {string} kind @param {number} page @param {number[] | null} chosen */
+    static nameOf(fax, kind, page, chosen) {
         const base = fax.file.name.replace(/\.[^.]*$/, "") || "fax";
+        const part = chosen && !["png", "text"].includes(kind) ? say(TEXTS.saving.pages, Choosing.text(chosen)) : "";
         const endings = /** @type {Record<string, string>} */ ({ text: "-report.txt", png: `-page-${sayPage(page)}.png`,
             tiff1: "-mh.tif", tiff2: "-mr.tif", tiff3: "-mmr.tif" });
-        return base + (endings[kind] ?? `.${kind}`);
+        return base + part + (endings[kind] ?? `.${kind}`);
     }
 
     /** What saves a file that was made.
@@ -135,6 +140,11 @@ class Makings {
     /** Ends what makes a file. The worker is started again where something else is asked of it. */
     cancel() {
         this.working?.life.end();
+    }
+
+    /** Has what is made be shown anew, in other words. */
+    forget() {
+        this.shown = "";
     }
 
     /** Shows what is made of a fax.

@@ -24,26 +24,6 @@ class Printing {
         addEventListener("afterprint", () => this.clear());
     }
 
-    /** The pages that a text names, from 0, as '1-3, 5' does; all where it is empty, and nothing where it names others.
-     * @param {string} text @param {number[]} pages that can be printed
-     * @returns {number[] | null} */
-    static chosen(text, pages) {
-        const last = (pages[pages.length - 1] ?? -1) + 1;
-        /** @type {Set<number>} */
-        const wanted = new Set();
-        for (const part of text.split(",").map((it) => it.trim()).filter(Boolean)) {
-            const [, from, to] = /^(\d+)\s*(?:[-–]\s*(\d+))?$/.exec(part) ?? [];
-            const [first, end] = [Number(from), Number(to ?? from)];
-            if (!(first >= 1 && first <= end && end <= last)) {
-                return null;
-            }
-            for (let page = first; page <= end; page++) {
-                wanted.add(page - 1);
-            }
-        }
-        return wanted.size > 0 ? pages.filter((page) => wanted.has(page)) : text.trim() ? null : pages;
-    }
-
     /** @param {string} text */
     tell(text) {
         this.said.textContent = text;
@@ -66,7 +46,7 @@ class Printing {
                 this.box.append(await Printing.sheet(fax, page, await fax.ask("save", words)));
             }
             this.tell("");
-            this.announce(say(texts.ready, sayCount(pages.length, "page", "pages")));
+            this.announce(say(texts.ready, sayCount(pages.length, "page")));
             print();
         } catch (error) {
             const isStopped = error instanceof Stopped || error instanceof Closed;

@@ -4,8 +4,10 @@
 class Sheet {
     static ACROSS = 2048;
     static DOWN = 1024;
-    /** So many tiles of the page that is looked at are drawn also where they are out of sight. */
+    /** A page of so many tiles is drawn wholly, also where some of it is out of sight. */
     static MOST_WHOLE = 6;
+    /** Of a larger one so much more is drawn above and below, of what is seen. */
+    static NEARLY = 0.25;
     /** Bars are so high at least, in pels of the screen, and so many; those that are so near to each other are one. */
     static LEAST_BAR = 2;
     static MOST_BARS = 1000;
@@ -24,8 +26,20 @@ class Sheet {
         this.element = document.createElement("div");
         this.paper = document.createElement("div");
         this.paper.className = "paper";
+        /** The page in small, below its tiles: it is seen until these are drawn.
+         * @type {HTMLCanvasElement | null} */
+        this.small = null;
         this.element.setAttribute("role", "img");
         this.element.append(this.paper);
+    }
+
+    /** Shows the page in small where it is not drawn yet.
+     * @param {{ pels: Uint32Array, width: number, height: number }} small */
+    standIn({ pels, width, height }) {
+        this.small ??= document.createElement("canvas");
+        this.small.className = "small";
+        putPels(this.small, pels.slice(), width, height);
+        this.paper.prepend(this.small);
     }
 
     /** Whether it is the page that is looked at; others stand above and below it.
@@ -37,8 +51,9 @@ class Sheet {
             this.fax.sayState(this.page)));
     }
 
+    /** Gives back the memory of its canvases at once, however many pages are scrolled past. */
     remove() {
-        this.tiles.clear();
+        this.drop(() => true);
         this.element.remove();
     }
 
@@ -47,17 +62,33 @@ class Sheet {
         return this.fax.turnsOf(this.page);
     }
 
-    /** The size of the page on the screen as it lies, at a scale of 1. */
-    natural() {
-        const [wide, high] = [this.form.width, this.form.rows * this.form.shape];
-        return this.turns % 2 ? [high, wide] : [wide, high];
+    /** The size of a page as it lies, at a scale of 1.
+     * @param {Form} form @param {number} turns */
+    static natural(form, turns) {
+        const [wide, high] = [form.width, form.rows * form.shape];
+        return turns % 2 ? [high, wide] : [wide, high];
+    }
+
+    /** The size of a page on the screen before it is turned.
+     * @param {Form} form @param {number} scale */
+    static sizeOf(form, scale) {
+        return [Math.round(form.width * scale), Math.round(form.rows * scale * form.shape)];
+    }
+
+    size() {
+        return Sheet.sizeOf(this.form, this.scale);
+    }
+
+    /** How wide it is as it is turned. */
+    get wide() {
+        return this.size()[this.turns % 2];
     }
 
     /** Lays the page out at its scale, as it is turned. */
     lay() {
-        this.scale = this.view.scaleOf(this);
-        const [wide, high] = this.size();
         const { turns } = this;
+        this.scale = this.view.scaleOf(this.form, turns);
+        const [wide, high] = this.size();
         const isAcross = turns % 2 === 1;
         this.element.style.width = `${isAcross ? high : wide}px`;
         this.element.style.height = `${isAcross ? wide : high}px`;
@@ -70,11 +101,6 @@ class Sheet {
             this.place(canvas, key);
         }
         this.mark();
-    }
-
-    /** The size of the page on the screen before it is turned. */
-    size() {
-        return [Math.round(this.form.width * this.scale), Math.round(this.form.rows * this.scale * this.form.shape)];
     }
 
     /** @param {HTMLCanvasElement} canvas @param {string} key */
@@ -90,17 +116,18 @@ class Sheet {
             height: `${Math.max(1, bottom - top)}px` });
     }
 
-    /** What of the page is in sight, in pels and rows: from and to; nothing where it is out of sight.
+    /** What of the page is in sight, or nearly, in pels and rows: from and to; nothing where it is far.
      * @returns {number[] | null} */
     inSight() {
         const { form } = this;
         const [box, sheet] = [this.view.view.getBoundingClientRect(), this.element.getBoundingClientRect()];
-        if (sheet.bottom < box.top || sheet.top > box.bottom) {
+        const more = Sheet.NEARLY * box.height;
+        if (sheet.bottom < box.top - more || sheet.top > box.bottom + more) {
             return null;
         }
         const [wide, high] = this.size();
-        const [left, top] = [box.left - sheet.left, box.top - sheet.top];
-        const [right, bottom] = [left + box.width, top + box.height];
+        const [left, top] = [box.left - sheet.left, box.top - more - sheet.top];
+        const [right, bottom] = [left + box.width, top + box.height + 2 * more];
         const [x, y, toX, toY] = [
             [left, top, right, bottom], [top, high - right, bottom, high - left],
             [wide - right, high - bottom, wide - left, high - top], [wide - bottom, left, wide - top, right],
@@ -116,12 +143,12 @@ class Sheet {
         return [scale, scale * this.form.shape].map((it) => Math.max(1, Math.floor(1 / it)));
     }
 
-    /** What is drawn, in pels and rows: what is in sight; all of the page that is looked at, if that is not large, so
-     * that it is there to be printed. */
+    /** What is drawn, in pels and rows: all of a page that is not large, so that it is there before it is scrolled to,
+     * and to be printed; of a large one what is in sight. */
     drawn() {
         const { width, rows } = this.form;
         const isSmall = Math.ceil(width / Sheet.ACROSS) * Math.ceil(rows / Sheet.DOWN) <= Sheet.MOST_WHOLE;
-        return isSmall && this.view.sheet === this ? [0, 0, width - 1, rows - 1] : this.inSight() ?? [0, 0, -1, -1];
+        return isSmall ? [0, 0, width - 1, rows - 1] : this.inSight() ?? [0, 0, -1, -1];
     }
 
     /** Gives the tiles that are drawn their canvases, and takes away the others. */
@@ -154,6 +181,7 @@ class Sheet {
         for (const [key, canvas] of this.tiles) {
             if (isDropped(key)) {
                 canvas.remove();
+                canvas.width = canvas.height = 0;
                 this.tiles.delete(key);
             }
         }
@@ -170,13 +198,15 @@ class Sheet {
         this.tiles.set(key, canvas);
         this.place(canvas, key);
         this.paper.append(canvas);
-        const isWanted = () => this.tiles.get(key) === canvas && fax.reading === reading;
+        const isWanted = () => this.view.sheets.get(page) === this && this.tiles.get(key) === canvas &&
+            fax.reading === reading;
         this.view.queue.add(isWanted, async () => {
             const { pels } = await fax.ask("part", { page, x, y, width, height, across, down });
             if (isWanted()) {
                 putPels(canvas, pels, Math.ceil(width / across), Math.ceil(height / down));
                 canvas.dataset.drawn = key;
                 this.drop((other) => other !== key && Sheet.placeOf(other) === Sheet.placeOf(key));
+                this.view.drawn();
             }
         });
     }

@@ -4,8 +4,14 @@
 const TEXTS_OF_NOISE = "As a rule this is noise on the telephone line, or the call was cut off. What is missing is " +
     "not in the file: if you need it, ask the sender for the page again.";
 
-/** What the page says, all of it. */
-const TEXTS = {
+/** What the page says, all of it, in English. Another language is a file beside this one, such as texts-de.js, with
+ * each of these texts, and a line in index.html. */
+const ENGLISH = {
+    /** What the language is called in itself, and how numbers are written in it. */
+    language: "English",
+    locale: "en-US",
+    /** What is counted: one, and many. */
+    counts: { page: ["page", "pages"], row: ["row", "rows"], file: ["file", "files"], place: ["place", "places"] },
     title: "Fax pages",
     /** What stands in index.html, by its data-text and data-label. */
     page: {
@@ -23,7 +29,11 @@ const TEXTS = {
         bareOpen: "It is bare fax data…",
         again: "Read it again",
         print: "Print",
-        printPages: "Pages to print: all, or as 1-3, 5",
+        chosen: "Pages",
+        chosenLong: "Pages to print and to save: all, or as 1-3, 5",
+        language: "Language",
+        zoom: "Zoom: 100% is as large as on paper",
+        invert: "Invert",
         marks: "Marks",
         notice: "Notes for other programs",
         filter: "Files with this in their name",
@@ -65,7 +75,8 @@ const TEXTS = {
         text: "Report (text)",
         saveMake: "Save",
         cancel: "Cancel",
-        hint: "PDF and PNG have all that is found, with missing rows grey; TIFF and PBM have whole pages only.",
+        hint: "PDF and PNG have all that is found, with missing rows grey; TIFF and PBM have whole pages only. " +
+            "Beside Print and Save it can be said which pages are meant.",
         report: "Report",
         keys: "Keys",
         letters: "Single letters, numbers and signs are keys",
@@ -77,7 +88,8 @@ const TEXTS = {
         keyFinding: "the next place where rows are missing",
         keyDamaged: "the next file of which something is missing",
         keyMarks: "marks beside the page, on and off",
-        keyPrint: "print all pages",
+        keyInvert: "black as white, and back",
+        keyPrint: "print all pages, or those that are named",
         keyFull: "full screen, and back",
         keyCopy: "copy the page as a picture",
         keyScroll: "scroll a little; left and right turn pages where nothing is to be scrolled; the mouse drags the " +
@@ -301,6 +313,7 @@ const TEXTS = {
         report: "{0} was made.",
         less: "{0} has {1} of {2}, and was read again and compared. The other pages have missing rows, and are left " +
             "out.",
+        pages: "-pages-{0}",
         failed: "{0} was not made: {1}.",
         cancelled: "{0} was not made: it was cancelled.",
         nothing: "No page is whole, so there is nothing to save in this way.",
@@ -335,12 +348,19 @@ const TEXTS = {
     copying: { copied: "Page {0} was copied as a picture.", failed: "Page {0} was not copied: {1}" },
 };
 
+/** The languages that there are, by their codes.
+ * @type {Map<string, typeof ENGLISH>} */
+const LANGUAGES = new Map([["en", ENGLISH]]);
+
+/** What the page says in the language that is chosen. */
+let TEXTS = ENGLISH;
+
 /** Puts values into a text: {0} is the first.
  * @param {string} text @param {...(string | number)} values */
 function say(text, ...values) {
     return text.replace(/\{(\d)\}/g, (_, at) => {
         const value = values[Number(at)];
-        return typeof value === "number" ? value.toLocaleString("en-US") : value;
+        return typeof value === "number" ? value.toLocaleString(TEXTS.locale) : value;
     });
 }
 
@@ -389,7 +409,8 @@ function sayOfKind({ name, value }) {
     return TEXTS.kinds[/** @type {"other"} */ (name)].map((text) => say(text, value));
 }
 
-/** @param {number} count @param {string} one @param {string} many */
-function sayCount(count, one, many) {
-    return `${count.toLocaleString("en-US")} ${count === 1 ? one : many}`;
+/** @param {number} count @param {"page" | "row" | "file" | "place"} what */
+function sayCount(count, what) {
+    const [one, many] = TEXTS.counts[what];
+    return `${count.toLocaleString(TEXTS.locale)} ${count === 1 ? one : many}`;
 }

@@ -37,7 +37,7 @@ class Verdict {
         const parts = [told, ...(fax.told?.isOpen ? [] : this.missing()), this.refused(), this.others(), this.chain()];
         const said = parts.filter(Boolean).join(" ");
         const whole = said ? "" : say(
-            texts.whole, sayCount(fax.pages, "page", "pages"), sayCount(fax.rows, "row", "rows"));
+            texts.whole, sayCount(fax.pages, "page"), sayCount(fax.rows, "row"));
         return [whole || said, fax.cut.size ? texts.cut : ""].filter(Boolean).join(" ");
     }
 
@@ -82,7 +82,7 @@ class Verdict {
         }
         return pages.length > Verdict.MOST_NAMED
             ? say(texts.mostOfMany, pages.length, lost, rows, sayPage(pages[0]))
-            : say(texts.mostOfPages, new Intl.ListFormat("en").format(pages.map(sayPage)), lost, rows);
+            : say(texts.mostOfPages, new Intl.ListFormat(TEXTS.locale).format(pages.map(sayPage)), lost, rows);
     }
 
     /** What is said of pages that are refused, and why the first of them is. */
@@ -100,7 +100,7 @@ class Verdict {
 
     others() {
         const { fax, texts } = this;
-        return fax.others ? say(texts.others, fax.others, sayCount(fax.pages, "page", "pages")) : "";
+        return fax.others ? say(texts.others, fax.others, sayCount(fax.pages, "page")) : "";
     }
 
     /** What is said where the pages end before the file says so. */

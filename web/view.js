@@ -50,7 +50,46 @@ function putPels(canvas, pels, width, height) {
     canvas.getContext("2d", { alpha: false })?.putImageData(data, 0, 0);
 }
 
-/** Shows pages below each other: the one that is looked at, the one before it and the one after it. */
+/** A page that cannot be read: it has its place among the others, and says so. */
+class Blank {
+    static HIGH = 96;
+    static WIDE = 360;
+
+    /** @param {Fax} fax @param {number} page */
+    constructor(fax, page) {
+        this.fax = fax;
+        this.page = page;
+        this.element = document.createElement("div");
+    }
+
+    /** @param {boolean} isCurrent */
+    dress(isCurrent) {
+        const said = say(TEXTS.pages.label, sayPage(this.page), this.fax.pages, this.fax.sayState(this.page));
+        this.element.className = isCurrent ? "sheet blank current" : "sheet blank";
+        this.element.setAttribute("aria-hidden", String(!isCurrent));
+        if (this.element.textContent !== said) {
+            this.element.textContent = said;
+        }
+    }
+
+    remove() {
+        this.element.remove();
+    }
+
+    /** @param {View} view */
+    lay({ view }) {
+        const wide = Math.max(50, Math.min(Blank.WIDE, view.clientWidth - 2 * Roll.GAP));
+        this.element.style.width = `${wide}px`;
+        this.element.style.height = `${Blank.HIGH}px`;
+        return wide;
+    }
+}
+
+/**
+ * Shows the pages of a fax below each other, under one bar that scrolls over all. Those in sight, and next to it, stand
+ * there (`sheet.js`); all have their places (`roll.js`). What comes next is drawn ahead, and pages in small stand in
+ * for what is not drawn yet.
+ */
 class View {
     /** So many pels are in sight at most, which bounds how long a picture takes. */
     static MOST_PELS = 64e6;
@@ -58,13 +97,33 @@ class View {
     static MOST_SIZE = 5e6;
     static MOST_SCALE = 8;
     static STEP = 1.25;
-    /** Around each page, as in faxpages.css. */
-    static GAP = 8;
+    static GAP = Roll.GAP;
+    /** Pages stand there as far above and below what is in sight, in screens. */
+    static AHEAD = 1;
+    /** So many pages after the one that is looked at, and before it, are there in small. */
+    static AFTER = 40;
+    static BEFORE = 10;
+    /** While pages are scrolled past, so many of the next ones come in small before any is drawn in large; and so many
+     * milliseconds after the last step they rest. */
+    static NEXT = 12;
+    static REST = 150;
+    /** So many of the next ones come in small before those are drawn in large that are out of sight. */
+    static SOON = 3;
+    /** Pels to the inch on paper, where the file does not say it, and on the screen: as large as on paper is 100%. */
+    static DOTS = 204;
+    static SCREEN_DOTS = 96;
 
-    /** @param {HTMLElement} view @param {(page: number) => void} moved once the reader has gone to another page */
-    constructor(view, moved) {
+    /** @param {HTMLElement} view @param {Smalls} smalls @param {(page: number) => void} moved once the reader has gone
+     * to another page @param {() => void} zoomed once the scale may be another */
+    constructor(view, smalls, moved, zoomed) {
         this.view = view;
+        this.smalls = smalls;
         this.moved = moved;
+        this.zoomed = zoomed;
+        this.all = document.createElement("div");
+        this.all.className = "roll";
+        view.append(this.all);
+        this.roll = new Roll(view, this.all, () => this.place());
         this.queue = new Queue(2);
         /** @type {Fax | null} */
         this.fax = null;
@@ -72,15 +131,28 @@ class View {
         this.page = -1;
         /** @type {number | "whole" | "wide"} */
         this.zoom = "whole";
-        /** @type {Map<number, Sheet>} */
+        /** The pages that stand there, and those among them that cannot be read.
+         * @type {Map<number, Sheet>} */
         this.sheets = new Map();
+        /** @type {Map<number, Blank>} */
+        this.blanks = new Map();
         this.isDue = false;
+        /** When pages were scrolled last, and what draws once they rest. */
+        this.scrolled = -View.REST;
+        this.timer = 0;
         this.hasMarks = true;
+        /** Whether something of the fax was drawn: what stands in for other pages is not drawn before. */
+        this.hasDrawn = false;
+        /** How much room pages have, across and down. */
+        this.room = [50, 50];
         view.addEventListener("scroll", () => {
+            this.scrolled = this.roll.isSteady ? -View.REST : performance.now();
+            this.roll.moved();
             this.follow();
             this.plan();
         });
         new ResizeObserver(() => this.lay()).observe(view);
+        smalls.changed = (page) => this.standIn(page);
     }
 
     /** The page that is looked at. */
@@ -96,77 +168,146 @@ class View {
     show(fax, page) {
         const reading = fax?.reading ?? 0;
         const isOther = this.fax !== fax || this.reading !== reading;
+        const before = this.form ?? this.blanks.get(this.page);
         const hasMoved = isOther || this.page !== page;
         Object.assign(this, { fax, reading, page });
+        this.smalls.show(fax);
         if (isOther) {
-            this.sheets.forEach((sheet) => sheet.remove());
-            this.sheets.clear();
+            this.clear();
         }
-        const before = this.sheet;
+        this.measure();
         this.stand();
-        if (hasMoved || before !== this.sheet) {
+        if (hasMoved || Boolean(before) !== Boolean(this.form ?? this.blanks.get(page))) {
             this.toTop();
         }
         this.plan();
     }
 
-    /** Has the page, the one before and the one after stand there, and no other. */
+    clear() {
+        [...this.sheets.values(), ...this.blanks.values()].forEach((it) => it.remove());
+        this.sheets.clear();
+        this.blanks.clear();
+        this.roll.clear();
+        this.hasDrawn = false;
+    }
+
+    /** Gives each page its place: those that are new, or all once these are forgotten. */
+    measure() {
+        const { fax, roll, view } = this;
+        const pages = fax?.pages ?? 0;
+        if (roll.pages > pages) {
+            roll.clear();
+        }
+        if (roll.pages === 0) {
+            const room = [view.clientWidth, view.clientHeight];
+            this.room = room.map((it) => Math.max(50, it - 2 * View.GAP));
+            roll.isCentred = !matchMedia(App.NARROW).matches;
+        }
+        while (fax && roll.pages < pages) {
+            const form = fax.form(roll.pages);
+            roll.add(form ? this.sizeOf(form, fax.turnsOf(roll.pages))[1] : Blank.HIGH);
+        }
+        roll.lay();
+    }
+
+    /** How wide and high a page is on the screen, as it is turned.
+     * @param {Form} form @param {number} turns */
+    sizeOf(form, turns) {
+        const scale = this.scaleOf(form, turns);
+        const [wide, high] = Sheet.sizeOf(form, scale);
+        return turns % 2 ? [high, wide] : [wide, high];
+    }
+
+    /** The first page and the last one that are in sight, or so many screens above or below.
+     * @param {number} screens */
+    range(screens) {
+        const { roll } = this;
+        const more = screens * this.view.clientHeight;
+        return [roll.pageAt(roll.top - more), roll.pageAt(roll.top + this.view.clientHeight + more)];
+    }
+
+    /** Has those pages stand there that are in sight or near, and the one that is looked at, and no other. */
     stand() {
         const { fax, page } = this;
-        const wanted = fax ? [page - 1, page, page + 1].filter((it) => fax.form(it)) : [];
-        for (const sheet of this.sheets.values()) {
-            if (!wanted.includes(sheet.page)) {
-                sheet.remove();
-                this.sheets.delete(sheet.page);
+        const [first, last] = this.range(View.AHEAD);
+        const isNear = (/** @type {number} */ it) => it === page || (it >= first && it <= last);
+        for (const standing of [this.sheets, this.blanks]) {
+            for (const [number, it] of standing) {
+                if (!isNear(number) || number >= this.roll.pages) {
+                    it.remove();
+                    standing.delete(number);
+                }
             }
         }
-        for (const it of wanted.filter((number) => !this.sheets.has(number))) {
-            const sheet = new Sheet(this, /** @type {Fax} */ (fax), it, /** @type {Form} */ (fax?.form(it)));
-            const after = this.sheets.get(it + 1) ?? this.sheets.get(it + 2);
-            this.sheets.set(it, sheet);
-            this.view.insertBefore(sheet.element, after?.element ?? null);
-            sheet.lay();
+        const near = Array.from({ length: last - first + 1 }, (_, at) => first + at);
+        for (const it of fax && this.roll.pages > 0 ? new Set([...near, page]) : []) {
+            if (it < this.roll.pages && !this.sheets.has(it) && !this.blanks.has(it)) {
+                this.put(/** @type {Fax} */ (fax), it);
+            }
         }
-        this.sheets.forEach((sheet) => sheet.dress(sheet.page === page));
+        [...this.sheets.values(), ...this.blanks.values()].forEach((it) => it.dress(it.page === page));
+        this.place();
     }
 
-    /** Whether a page is across the middle of what is seen.
-     * @param {Sheet} sheet */
-    isAcross({ element }) {
-        const middle = this.view.scrollTop + this.view.clientHeight / 2;
-        return element.offsetTop - View.GAP <= middle && element.offsetTop + element.offsetHeight + View.GAP > middle;
+    /** Has a page stand there, among the others.
+     * @param {Fax} fax @param {number} page */
+    put(fax, page) {
+        const form = fax.form(page);
+        const after = [...this.sheets.values(), ...this.blanks.values()].filter((it) => it.page > page)
+            .reduce((/** @type {Sheet | Blank | null} */ one, it) => (one && one.page < it.page ? one : it), null);
+        const made = form ? new Sheet(this, fax, page, form) : new Blank(fax, page);
+        this.all.insertBefore(made.element, after?.element ?? null);
+        if (made instanceof Sheet) {
+            this.sheets.set(page, made);
+            made.lay();
+            this.standIn(page);
+        } else {
+            this.blanks.set(page, made);
+            made.lay(this);
+        }
     }
 
-    /** Whether a page is across the middle, or wholly in sight.
-     * @param {Sheet} sheet */
-    isLookedAt(sheet) {
-        const { scrollTop, clientHeight } = this.view;
-        const { offsetTop, offsetHeight } = sheet.element;
-        return this.isAcross(sheet) || (offsetTop >= scrollTop &&
-            offsetTop + offsetHeight <= scrollTop + clientHeight);
+    /** Puts what stands there to its place: narrow pages into the middle. */
+    place() {
+        const { roll, view } = this;
+        let most = 0;
+        for (const it of [...this.sheets.values(), ...this.blanks.values()]) {
+            const wide = it instanceof Sheet ? it.wide : it.lay(this);
+            it.element.style.top = `${roll.topOf(it.page) - roll.base}px`;
+            it.element.style.left = `${Math.max(View.GAP, Math.round((view.clientWidth - wide) / 2))}px`;
+            most = Math.max(most, wide + 2 * View.GAP);
+        }
+        this.all.style.width = most > view.clientWidth ? `${most}px` : "100%";
     }
 
-    /** Takes the page that has come into the middle for the one that is looked at, once that is not all in sight. What
-     * is seen stays where it is. */
+    /** Whether a page is across the middle of what is seen, or wholly in sight.
+     * @param {number} page */
+    isLookedAt(page) {
+        const { roll, view } = this;
+        const [from, to] = [roll.top, roll.top + view.clientHeight];
+        const [top, middle] = [roll.topOf(page), (from + to) / 2];
+        const bottom = top + roll.heightOf(page);
+        return (top - View.GAP <= middle && bottom + View.GAP > middle) || (top >= from && bottom <= to);
+    }
+
+    /** Takes the page that has come into the middle for the one that is looked at, once that is not all in sight. */
     follow() {
-        const { sheet, view } = this;
-        const other = [...this.sheets.values()].find((it) => this.isAcross(it));
-        if (sheet && other && !this.isLookedAt(sheet)) {
-            const place = other.element.offsetTop - view.scrollTop;
-            this.page = other.page;
-            this.stand();
-            view.scrollTop = other.element.offsetTop - place;
-            this.moved(other.page);
+        const { roll, view, page } = this;
+        const other = roll.pageAt(roll.top + view.clientHeight / 2);
+        const hasMoved = this.fax !== null && roll.pages > 0 && other !== page && !this.isLookedAt(page);
+        this.page = hasMoved ? other : page;
+        this.stand();
+        if (hasMoved) {
+            this.moved(other);
         }
     }
 
     /** The scale of a page by the zoom, within what canvases have room for.
-     * @param {Sheet} sheet */
-    scaleOf(sheet) {
-        const [wide, high] = sheet.natural();
-        const { shape } = sheet.form;
-        const room = 2 * View.GAP;
-        const [across, down] = [this.view.clientWidth, this.view.clientHeight].map((it) => Math.max(50, it - room));
+     * @param {Form} form @param {number} turns */
+    scaleOf(form, turns) {
+        const [wide, high] = Sheet.natural(form, turns);
+        const { shape } = form;
+        const [across, down] = this.room;
         const wanted = this.zoom === "whole" ? Math.min(across / wide, down / high)
             : this.zoom === "wide" ? across / wide : this.zoom;
         const least = Math.sqrt((across * down) / (View.MOST_PELS * shape));
@@ -184,10 +325,27 @@ class View {
         return this.fax?.turnsOf(this.page) ?? 0;
     }
 
+    /** The scale at which the page that is looked at is as large as on paper. */
+    get paperScale() {
+        const { form } = this;
+        const inches = form ? Pdf.inches(form, form.width, form.across) : 0;
+        return form && inches > 0 ? (inches * View.SCREEN_DOTS) / form.width : View.SCREEN_DOTS / View.DOTS;
+    }
+
+    /** How large the page that is looked at is, in hundredths of what it is on paper. */
+    get percent() {
+        return Math.round((100 * this.scale) / this.paperScale);
+    }
+
+    /** @param {number} percent */
+    setPercent(percent) {
+        this.setZoom(Math.max(0.01, Math.min(View.MOST_SCALE, (percent / 100) * this.paperScale)));
+    }
+
     /** Lays all pages out, and stays at the page that is looked at. */
     lay() {
         this.layAround(this.view.clientWidth / 2, this.view.clientHeight / 2);
-        if (this.sheet && !this.isLookedAt(this.sheet)) {
+        if (this.roll.pages > 0 && !this.isLookedAt(this.page)) {
             this.toTop();
         }
     }
@@ -195,16 +353,23 @@ class View {
     /** Lays all pages out, so that what is at a place of the view stays there.
      * @param {number} x @param {number} y */
     layAround(x, y) {
-        const { sheet, view } = this;
-        const before = sheet?.element.getBoundingClientRect();
+        const { view, roll, page } = this;
+        const box = () => this.sheets.get(page)?.element.getBoundingClientRect();
+        const before = box();
+        const [down, high] = [roll.top + y - roll.topOf(page), roll.heightOf(page)];
+        const left = view.getBoundingClientRect().left + x;
+        roll.clear();
+        this.measure();
         this.sheets.forEach((it) => it.lay());
-        if (sheet && before && before.width > 0 && before.height > 0) {
-            const box = view.getBoundingClientRect();
-            const after = sheet.element.getBoundingClientRect();
-            const [left, top] = [box.left + x, box.top + y];
-            view.scrollLeft += after.left + ((left - before.left) / before.width) * after.width - left;
-            view.scrollTop += after.top + ((top - before.top) / before.height) * after.height - top;
+        this.place();
+        const after = box();
+        if (before && after && before.width > 0 && high > 0) {
+            const across = after.left + ((left - before.left) / before.width) * after.width - left;
+            const top = roll.topOf(page) + (down / high) * roll.heightOf(page) - y;
+            roll.goTo(view.scrollLeft + across, top);
         }
+        this.stand();
+        this.zoomed();
         this.plan();
     }
 
@@ -219,10 +384,74 @@ class View {
         }
     }
 
-    /** Draws what is in sight, the page that is looked at first. */
+    /** Whether something is to be drawn that nobody was asked for yet. */
+    get isWaiting() {
+        return this.isDue || this.timer !== 0;
+    }
+
+    /** Draws what is in sight, the page that is looked at first, and then what is next to it. While pages are scrolled
+     * past they are drawn in small first. */
     fill() {
+        const [first, last] = this.range(0);
+        const isInSight = (/** @type {Sheet} */ { page }) => page >= first && page <= last;
+        const others = [...this.sheets.values()].filter((sheet) => sheet !== this.sheet);
+        this.fillAhead();
+        const isMoving = this.hasDrawn && performance.now() - this.scrolled < View.REST;
+        if (isMoving && this.lacks(first, last + View.NEXT)) {
+            this.timer ||= setTimeout(() => {
+                this.timer = 0;
+                this.fill();
+            }, View.REST);
+            return;
+        }
         this.sheet?.fill();
-        this.sheets.forEach((sheet) => sheet !== this.sheet && sheet.fill());
+        others.filter(isInSight).forEach((sheet) => sheet.fill());
+        if (this.hasDrawn && !this.lacks(last + 1, last + View.SOON)) {
+            others.filter((sheet) => !isInSight(sheet)).forEach((sheet) => sheet.fill());
+        }
+    }
+
+    /** Whether a page is not there in small, of these.
+     * @param {number} first @param {number} last */
+    lacks(first, last) {
+        for (let page = first; page <= last; page++) {
+            if (this.fax?.form(page) && !this.smalls.kept.has(page)) {
+                return true;
+            }
+        }
+        return false;
+    }
+
+    /** Something of a page was drawn. */
+    drawn() {
+        this.hasDrawn = true;
+        this.plan();
+    }
+
+    /** A page is there in small: it stands in where it is not drawn, and the next one is drawn so.
+     * @param {number} page */
+    standIn(page) {
+        const small = this.smalls.kept.get(page);
+        if (small) {
+            this.sheets.get(page)?.standIn(small);
+        }
+        this.plan();
+    }
+
+    /** Has more pages be drawn in small, where they are not: first those that stand there, then the next ones. */
+    fillAhead() {
+        const { fax, page, smalls } = this;
+        if (!fax || !this.hasDrawn || smalls.isBusy()) {
+            return;
+        }
+        const after = Array.from({ length: View.AFTER }, (_, at) => page + 1 + at);
+        const before = Array.from({ length: View.BEFORE }, (_, at) => page - 1 - at);
+        const next = [page, ...this.sheets.keys(), ...after, ...before].find((it) =>
+            fax.form(it) && !smalls.kept.has(it) && !smalls.asked.has(it));
+        if (next !== undefined) {
+            smalls.want(next, () => true, () => {});
+            this.fillAhead();
+        }
     }
 
     /** Marks the rows that are lost, in the margin. */
@@ -237,19 +466,29 @@ class View {
         this.mark();
     }
 
+    /** Whether white is shown black, and black white. */
+    get isInverted() {
+        return this.view.classList.contains("inverted");
+    }
+
+    /** @param {boolean} isOn */
+    setInverted(isOn) {
+        this.view.classList.toggle("inverted", isOn);
+    }
+
     toTop() {
-        this.view.scrollTo(0, this.sheet ? this.sheet.element.offsetTop - View.GAP : 0);
+        this.roll.goTo(0, this.roll.topOf(this.page) - View.GAP);
     }
 
     /** Goes to a row; of a page that is wholly in sight, to its top.
      * @param {number} row */
     goTo(row) {
-        const { sheet } = this;
-        if (sheet && sheet.element.offsetHeight + 2 * View.GAP <= this.view.clientHeight) {
+        const { sheet, roll, page, view } = this;
+        if (sheet && roll.heightOf(page) + 2 * View.GAP <= view.clientHeight) {
             this.toTop();
         } else if (sheet && this.turns === 0) {
-            const top = sheet.element.offsetTop + (row * sheet.size()[1]) / sheet.form.rows;
-            this.view.scrollTo({ top: Math.max(sheet.element.offsetTop - View.GAP, top - this.view.clientHeight / 3) });
+            const top = roll.topOf(page) + (row * sheet.size()[1]) / sheet.form.rows;
+            roll.goTo(view.scrollLeft, Math.max(roll.topOf(page) - View.GAP, top - view.clientHeight / 3));
         }
     }
 

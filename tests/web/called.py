@@ -1,5 +1,5 @@
-"""What the package of web/npm does that the program has no command for, in each Node that is at hand: rows as runs, pages
-as pictures, what is written of what is left, bare data, and what it says of arguments that are none."""
+"""What the package of web/npm does that the program has no command for, in each Node that is at hand: rows as runs,
+pages as pictures, what is written of what is left, bare data, and what it says of arguments that are none."""
 
 from __future__ import annotations
 
@@ -78,7 +78,8 @@ def arguments(folder: str, run: Run, node: str) -> Generator[Claim, None, None]:
         yield f"{node}: the version", told["version"], version.read().strip()
     for name, said in told["given"].items():
         first = told["given"]["Buffer"]
-        yield f"{node}: a file as {name}", said, first if name in TAKEN else dict.fromkeys(first, WANTED + REFUSED[name])
+        yield f"{node}: a file as {name}", said, first if name in TAKEN else dict.fromkeys(
+            first, WANTED + REFUSED[name])
     yield f"{node}: it is a file", [first["list"], first["rows"], first["rgba"]], [1, "function", 8]
     yield f"{node}: other arguments", told["odd"], ODD
     yield f"{node}: a path for the library", told["path"], WANTED.replace("a file", "the library") + REFUSED["path"]
@@ -104,8 +105,8 @@ def resolved(program: str, room: str) -> list[str]:
 
 
 def calls(program: str, folder: str, room: str, run: Run, node: str) -> Generator[Claim, None, None]:
-    """Runs are the program's, pictures are those of faxpages-picture, and what is written has the rows that are left, in
-    their resolution."""
+    """Runs are the program's, pictures are those of faxpages-picture, and what is written has the rows that are left,
+    in their resolution."""
     mine = resolved(program, room)
     paths = [*faxes.all_files(program, room)[::4], f"{TOP}/samples/received/over-a-noisy-line.tif", *mine]
     status, text = run(folder, node, "calls-in-node.mjs", *paths)
@@ -128,8 +129,8 @@ def calls(program: str, folder: str, room: str, run: Run, node: str) -> Generato
 
 
 def written(program: str, name: str, path: str, told: dict[str, str], room: str) -> Generator[Claim, None, None]:
-    """What is written is a whole fax of the pages that can be read: width, rows and resolution as they were, and each row
-    that is left."""
+    """What is written is a whole fax of the pages that can be read: width, rows and resolution as they were, and each
+    row that is left."""
     forms = [line.split() for line in faxes.said(program, "list", path).splitlines() if line.startswith("page ")]
     salvaged = [line.split() for line in faxes.said(program, "salvage", path).splitlines()]
     there = sorted({int(words[1]) for words in salvaged if words[0] == "row" or (
@@ -156,8 +157,8 @@ def written(program: str, name: str, path: str, told: dict[str, str], room: str)
 
 
 def bare(program: str, folder: str, room: str, run: Run, node: str) -> Generator[Claim, None, None]:
-    """Of bare data as many rows are left as of a TIFF file with the same bytes, whether it is said how they are coded, or
-    guessed."""
+    """Of bare data as many rows are left as of a TIFF file with the same bytes, whether it is said how they are coded,
+    or guessed."""
     words: list[str] = []
     wanted: list[Any] = []
     for seed, coding in enumerate(faxes.CODINGS):
@@ -175,12 +176,14 @@ def bare(program: str, folder: str, room: str, run: Run, node: str) -> Generator
             lost = [[int(it) for it in words[2:4]] + [words[4]] for words in said if words[0] == "lost"]
             for how in (None, {"coding": coding, "order": order, "rows": 400}):
                 words += [path, json.dumps(how)]
-                wanted.append((f"bare {coding} {order} {how}", coding, order, how, lost, sum(it[0] == "row" for it in said)))
+                wanted.append((f"bare {coding} {order} {how}", coding, order, how, lost,
+                               sum(it[0] == "row" for it in said)))
     status, text = run(folder, node, "bare-in-node.mjs", *words)
     yield f"{node}: bare data", status, 0
     for (name, coding, order, how, lost, rows), told in zip(wanted, json.loads(text), strict=True):
         name = f"{node}: {name}"
-        yield f"{name}: how it is coded", [told["how"][key] for key in ("coding", "order", "width")], [coding, order, 1728]
+        yield f"{name}: how it is coded", [told["how"][key] for key in ("coding", "order", "width")], [
+            coding, order, 1728]
         missing = sum(it[1] for it in told["lost"])
         yield f"{name}: rows that are found", told["form"]["rows"] - missing, rows
         if how:
@@ -193,8 +196,9 @@ def example(program: str, folder: str, run: Run) -> Generator[Claim, None, None]
     texts = re.findall(r"```js\n(.*?)```", get(f"{TOP}/web/npm/README.md").decode(), re.S)
     loads = "".join(line for line in texts[0].splitlines(True) if line.startswith(("import", "const")))
     tail = """
-console.log(JSON.stringify([pages.length, fault, report.rows, width, height, data.length, faxpages.list(mended).pages[0],
-    faxpages.check(mmr).rows, bare.form.rows, bare.how.coding, faxpages.check(tiff).rows]));
+console.log(JSON.stringify([pages.length, fault, report.rows, width, height, data.length,
+    faxpages.list(mended).pages[0], faxpages.check(mmr).rows, bare.form.rows, bare.how.coding,
+    faxpages.check(tiff).rows]));
 """
     image = pages.image(1728, [pages.draw_row(random.Random(at), "marks", 1728, 0, 0) for at in range(90)])
     fax = faxes.convert(program, image, "-o", "mmr").replace(b"\xc4\0\0\0\1\0\0\0", b"\x62\0\0\0\1\0\0\0")

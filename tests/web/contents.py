@@ -8,7 +8,7 @@ import math
 import random
 
 from tests.convert import pages
-from tests.convert.files import get
+from tests.convert.files import directories_of, get, strips_of
 from tests.finding import found
 from tests.web import faxes, verdicts
 from tests.web.verdicts import counted
@@ -32,18 +32,20 @@ class Content:
     pictures: list[Picture] = dataclasses.field(default_factory=list)
     # What is found wrong, as the page lists it.
     found: list[str] = dataclasses.field(default_factory=list)
+    # How much wider than high a pel is.
+    shape: float = SHAPE
 
     def small(self, page: int) -> Picture:
-        return small(self.pictures[page])
+        return small(self.pictures[page], self.shape)
 
 
-def small(picture: Picture) -> Picture:
+def small(picture: Picture, shape: float) -> Picture:
     """The picture in cells: as many bytes across, and rows down, as fit into a thumbnail; a grey for each."""
     wide, high, pels = picture
     stride = -(-wide // 8)
-    scale = min(1, SMALL / max(wide, high * SHAPE))
+    scale = min(1, SMALL / max(wide, high * shape))
     across = max(1, min(stride, rounded(wide * scale)))
-    down = max(1, min(high, rounded(high * SHAPE * scale)))
+    down = max(1, min(high, rounded(high * shape * scale)))
     columns = [range(8 * (at * stride // across), min(wide, 8 * ((at + 1) * stride // across))) for at in range(across)]
     bits = [8 * ((at + 1) * stride // across - at * stride // across) for at in range(across)]
     lines = [[row for row in range(high) if row * down // high == line] for line in range(down)]
@@ -68,6 +70,14 @@ def whole(program: str, data: bytes) -> Content:
     rows = sum(high for _, high, _ in pictures)
     verdict = f"This fax is whole: {counted(len(pictures), 'page')}, {counted(rows, 'row')}."
     return Content(data, verdict, "whole", len(pictures), pictures[:9])
+
+
+def bare(program: str) -> Content:
+    """T.6 data alone, whose coding is guessed; a page of so few rows has the standard resolution."""
+    image = pages.image(1728, [pages.draw_row(random.Random(row), "marks", 1728, row, 0) for row in range(123)])
+    it = whole(program, faxes.convert(program, image, "-o", "mmr"))
+    (strip,) = strips_of(it.data, next(directories_of(it.data)))
+    return dataclasses.replace(it, data=strip, shape=204 / 98)
 
 
 def damaged(program: str, path: str) -> Content | None:
@@ -114,7 +124,7 @@ def all_contents(program: str, room: str) -> list[Content]:
     kinds = {b"%PDF-1.4\n%": "a PDF. A PDF viewer opens it.", b"Dear all,\n" * 9: "text. A text editor opens it.",
              b"": "an empty file. Ask for it again."}
     known = [whole(program, data.ljust(most, b"\0")) for data in faxes_drawn]
-    known += [whole(program, long), whole(program, images)]
+    known += [whole(program, long), whole(program, images), bare(program)]
     known += [it for path in faxes.damaged(program, room) if (it := damaged(program, path))]
     known += [Content(data, f"This is no fax that is read here, but {kind}", "other") for data, kind in kinds.items()]
     return list({it.verdict: it for it in known}.values())

@@ -1,5 +1,6 @@
-"""A drawn operator of the page: files are opened, switched, closed, saved, deleted and written over, their reading is
-stopped and their workers break down, and what the page asks of workers is held back meanwhile. After some steps all
+"""A drawn operator of the page: files are opened, sent by a page around it, switched, closed, deleted and written over;
+pages that are named are saved, turned, made larger and inverted; their reading is stopped, their workers break down, what
+the page asks of workers is held back meanwhile, it speaks another language, and is loaded again. After some steps all
 that is seen is compared with a plain model: whose picture, which verdict, how many workers, how much memory.
 
 An episode is drawn by the seed and its number alone, and begins with no file open. With FAXPAGES_EPISODE in the
@@ -27,8 +28,10 @@ SEED = os.environ.get("FAXPAGES_SEED", "20261129")
 STEPS = int(os.environ.get("FAXPAGES_STEPS", "200" if os.environ.get("DRAWS") == "short" else "1000"))
 ONE = os.environ.get("FAXPAGES_EPISODE", "")
 EPISODE = 100
-# So many files are open at most, and so many there are.
-MOST_OPEN, FILES = 60, 70
+# So many files are open at most, in some episodes so many, and so many there are.
+MOST_OPEN, MANY_OPEN, FILES = 60, 300, 320
+# Of so many episodes one has many files.
+EACH_MANY = 5
 # So many workers may there be once all is read: the shown file's, and those of App.WORKERS others.
 MOST_WORKERS = 5
 # Bytes of memory that a worker may take, beside what the page had at first and what the browser gives back late.
@@ -37,6 +40,8 @@ OF_A_WORKER = 24 * 2 ** 20
 SOON = 90
 BROKE = "it broke"
 NOTHING = "No page is whole, so there is nothing to save in this way."
+# The page is watched from its beginning, where files come back that were open.
+WATCH_ANEW = WATCH.replace("while (app.fax) app.close();", "")
 # What a verdict may begin with, and what has to have happened then.
 ANEW = "The file was changed on the disk, and was read again. "
 LATER = re.compile(r"It cannot be shown any more: (.*?) What was read of it before: ")
@@ -48,11 +53,11 @@ WHY = {
 }
 LEFT = re.compile(r"You stopped the reading\. Of ([\d,]+) pages, those before page ([\d,]+) were read\.")
 SETTLED = """(() => {
-    const { fax, view, thumbs, makings } = app;
+    const { fax, view, makings } = app;
     const isIdle = (queue) => queue.running === 0 && !queue.waiting.some((job) => job.isWanted());
-    if (app.isDue || makings.working || app.faxes.some((it) => it.isBusy()) || view.isDue) return false;
+    if (app.isDue || makings.working || app.faxes.some((it) => it.isBusy()) || view.isWaiting) return false;
     if (view.fax !== fax || (fax && view.reading !== fax.reading)) return false;
-    return isIdle(view.queue) && isIdle(thumbs.queue);
+    return isIdle(view.queue) && isIdle(view.smalls.queue);
 })()"""
 SEEN = f"""(() => {{
     const text = (id) => document.getElementById(id).textContent;
@@ -79,7 +84,12 @@ SEEN = f"""(() => {{
         addresses: watched.urls.size, ready: faxes.filter((fax) => fax.making?.place).length,
         found: [...document.querySelectorAll("#findings .name, #notes-list li")].map((it) => it.className === "name"
             ? it.textContent : `${{it.firstChild.textContent}}: ${{it.lastChild.textContent.split(":")[0]}}`),
-        saved: text("saved"), link: link && link.download,
+        saved: text("saved"), link: link && link.download, printing: text("printing"),
+        pressed: ["marks", "invert"].map((id) => document.getElementById(id).getAttribute("aria-pressed") === "true"),
+        shows: [view.hasMarks, view.view.classList.contains("inverted")],
+        zoom: document.getElementById("zoom").value, percent: fax && view.form ? `${{view.percent}}%` : null,
+        bar: fax && fax.pages ? [view.roll.pages, fax.pages, view.roll.all.offsetHeight,
+            Math.max(view.view.clientHeight, Math.round(view.roll.total))] : [0, 0, 0, 0],
     }});
 }})()"""
 
@@ -103,8 +113,12 @@ class Opened:
 class Operator:
     """The page, the files on the disk, and those that are open."""
 
-    def __init__(self, browser: Browser, room: str, known: list[Content], seed: str) -> None:
+    def __init__(self, browser: Browser, room: str, known: list[Content], seed: str, most: int) -> None:
         self.browser, self.known, self.draw = browser, known, random.Random(seed)
+        self.room, self.most, self.sent = room, most, 0
+        # What a step itself found to be otherwise than it has to be.
+        self.wrong: list[str] = []
+        self.shows = browser.run('[app.view.hasMarks, app.view.view.classList.contains("inverted")]')
         self.done: list[str] = []
         self.opened: list[Opened] = []
         self.shown: Opened | None = None
@@ -126,7 +140,8 @@ class Operator:
         # What is open already with the same bytes is shown, and stands in the list once: that is tried in everyday.
         there = [path for path, content in self.disk.items() if content and not any(
             it.path == path and any(held is content for held in it.held) for it in self.opened)]
-        count = min(self.draw.choice([1, 1, 2, 5, 12, 30]), MOST_OPEN - len(self.opened), len(there))
+        count = self.draw.choice([1, 1, 2, 5, 12, 30, *([100] if self.most > MOST_OPEN else [])])
+        count = min(count, self.most - len(self.opened), len(there))
         if count < 1:
             return ""
         paths = self.draw.sample(there, count)
@@ -136,6 +151,38 @@ class Operator:
         self.opened += new
         self.shown = new[0]
         return f"open {[it.name for it in new]}"
+
+    def send(self) -> str:
+        """A page around this one sends a file, whose bytes are in no file of the disk."""
+        if len(self.opened) >= self.most:
+            return ""
+        self.sent += 1
+        it = Opened(f"{self.room}/sent-{self.sent}.tif", [self.draw.choice(self.known)])
+        answer = self.browser.run(f"""app.embedding.take([{{ name: "{it.name}", data: Uint8Array.from(
+            atob("{base64.b64encode(it.held[0].data).decode()}"), (letter) => letter.charCodeAt(0)) }}])""")
+        assert answer == {"names": [it.name]}, answer
+        self.opened.append(it)
+        self.shown = it
+        return f"sent {it.name}: {it.held[0].verdict}"
+
+    def reload(self) -> str:
+        """The page is loaded again, once all was read: what the browser keeps of files comes back, and no other."""
+        if not self.is_settled:
+            return ""
+        self.browser.until("app.keeping.timer === 0 && app.keeping.wanted.size === 0", SOON)
+        kept = self.browser.run("""app.keeping.last.then(() =>
+            app.faxes.map((fax) => app.keeping.sizes.has(fax.number)))""")
+        self.opened = [it for it, is_kept in zip(self.opened, kept, strict=True) if is_kept]
+        for it in self.opened:
+            it.saved.clear()
+        self.browser.go(self.browser.run("location.href"))
+        self.browser.run(WATCH_ANEW)
+        self.browser.until(f"app.faxes.length === {len(self.opened)}", SOON)
+        at = self.browser.run("app.fax ? app.faxes.indexOf(app.fax) : -1")
+        if self.shown not in self.opened or at != self.opened.index(self.shown):
+            self.shown = self.opened[at] if at >= 0 else None
+        self.shows = [True, False]
+        return f"load again, with {len(self.opened)} files"
 
     def switch(self) -> str:
         if not self.opened:
@@ -173,9 +220,14 @@ class Operator:
                 it.befell.add("touched")
                 it.held += [content] if content else []
 
+    def path_of_shown(self) -> str:
+        """At times the path of the file that is shown, if it is one of the disk."""
+        is_meant = self.shown and self.shown.path in self.disk and self.draw.random() < 0.3
+        return self.shown.path if self.shown and is_meant else ""
+
     def delete(self) -> str:
         there = [path for path, content in self.disk.items() if content]
-        path = self.shown.path if self.shown and self.draw.random() < 0.3 else self.draw.choice(there)
+        path = self.path_of_shown() or self.draw.choice(there)
         if self.disk[path]:
             os.unlink(path)
             self.touch(path, None)
@@ -183,7 +235,7 @@ class Operator:
 
     def rewrite(self) -> str:
         """Another content, or the same; and at times of the same length, as if it was written when the last one was."""
-        path = self.shown.path if self.shown and self.draw.random() < 0.3 else self.draw.choice(list(self.disk))
+        path = self.path_of_shown() or self.draw.choice(list(self.disk))
         before = os.stat(path) if self.disk[path] else None
         keeps = before is not None and self.draw.random() < 0.5
         same = [it for it in self.known if before is not None and len(it.data) == before.st_size]
@@ -231,12 +283,24 @@ class Operator:
                 '!document.getElementById("save").checkVisibility() || document.getElementById("save-make").disabled'):
             return ""
         kind = self.draw.choice(["pdf", "tiff3", "tiff1", "pbm", "png", "text"])
-        name = self.browser.run(f"""(() => {{
+        text = self.draw.choice(["", "", "1", "2", "1-2", "3,1", "99999", "x"])
+        name, is_refused, pages = self.browser.run(f"""(() => {{
             const form = document.getElementById("save");
+            document.getElementById("chosen").value = "{text}";
             form.elements.kind.value = "{kind}";
+            const before = app.fax.making;
             form.querySelector("button").click();
-            return app.fax.making?.name;
+            document.getElementById("chosen").value = "";
+            return [app.fax.making?.name, app.fax.making === before, app.fax.shownPages().length];
         }})()""")
+        last = max([int(it) for it in re.findall(r"\d+", text)], default=1)
+        if is_refused != (text == "x" or last > pages):
+            self.wrong.append(f"pages {text!r} of {pages} are {'' if is_refused else 'not '}refused")
+        if is_refused:
+            return f"save pages {text!r}, which are none of {pages}"
+        wanted = {"3,1": "1,3"}.get(text, text) if kind not in ("png", "text") else ""
+        if (f"-pages-{wanted}" in name) != bool(wanted) or ("-pages-" in name) != bool(wanted):
+            self.wrong.append(f"pages {text!r} are saved as {name}")
         self.shown.saved.add(name)
         return f"save {name}"
 
@@ -265,11 +329,36 @@ class Operator:
         button = self.draw.choice(["smaller", "larger", "whole", "wide", "left", "right"])
         return self.click(f"#{button}", button)
 
+    def percent(self) -> str:
+        """A size is typed, or what is none."""
+        if not self.shown:
+            return ""
+        text = self.draw.choice(["100", "25%", "400", "1600", "x", "0"])
+        self.browser.run(f"""document.getElementById("zoom").value = "{text}";
+            document.getElementById("zoom").dispatchEvent(new Event("change"))""")
+        return f"zoom {text}"
+
+    def look_otherwise(self) -> str:
+        """Marks are switched off and on, and the page is inverted, and as it was again."""
+        at = self.draw.randrange(2)
+        said = self.click(["#marks", "#invert"][at], ["marks", "invert"][at])
+        if said:
+            self.shows[at] = not self.shows[at]
+        return said
+
+    def speak(self) -> str:
+        """It speaks another language, and English again, which the model knows."""
+        for code in ("de", "en"):
+            self.browser.run(f"""document.getElementById("language").value = "{code}";
+                document.getElementById("language").dispatchEvent(new Event("change"))""")
+        return "speak German, and English again"
+
     def step(self, grows: bool) -> None:
         weights: dict[Callable[[], str], int] = {
             self.open: 8 if grows else 2, self.close: 3 if grows else 12, self.switch: 18, self.delete: 2,
             self.rewrite: 6, self.page: 5, self.stop: 5, self.again: 4, self.breaks: 1, self.save: 9, self.cancel: 2,
-            self.hold: 3, self.release: 3, self.zoom: 3, self.scroll: 4,
+            self.hold: 3, self.release: 3, self.zoom: 3, self.scroll: 4, self.send: 3, self.percent: 2,
+            self.look_otherwise: 3, self.speak: 1, self.reload: 2,
         }
         said = ""
         while not said:
@@ -289,7 +378,7 @@ class Operator:
             return [f"it hangs: {self.browser.run(HANGS)}"]
         self.is_settled = True
         seen = json.loads(self.browser.run(SEEN))
-        return [*self.of_all(seen), *(self.of_shown(seen, self.shown) if self.shown else [])]
+        return [*self.wrong, *self.of_all(seen), *(self.of_shown(seen, self.shown) if self.shown else [])]
 
     def of_all(self, seen: Any) -> list[str]:
         """What differs in the list, in workers and in memory."""
@@ -306,6 +395,12 @@ class Operator:
                   if not it.befell and look != it.held[0].look]
         if seen["workers"] != seen["owned"] or seen["workers"] > min(MOST_WORKERS, len(self.opened)):
             wrong.append(f"{seen['workers']} workers live, of which {seen['owned']} are of open files")
+        if seen["shows"] != self.shows or seen["pressed"] != self.shows:
+            wrong.append(f"marks and inverting are {seen['shows']}, said to be {seen['pressed']}, and not {self.shows}")
+        if seen["percent"] and seen["zoom"] != seen["percent"]:
+            wrong.append(f"the size is said to be {seen['zoom']}, and not {seen['percent']}")
+        if seen["bar"][0] != seen["bar"][1] or abs(seen["bar"][2] - seen["bar"][3]) > 1:
+            wrong.append(f"the bar is of {seen['bar'][0]} pages and {seen['bar'][2]} high, and not {seen['bar'][1::2]}")
         if seen["addresses"] != seen["ready"]:
             wrong.append(f"{seen['addresses']} addresses for {seen['ready']} files that were made")
         return wrong
@@ -329,7 +424,7 @@ class Operator:
 
 
 HANGS = """JSON.stringify([app.isDue, app.makings.working?.file.name, app.view.queue.running,
-    app.thumbs.queue.running, app.faxes.filter((it) => it.isBusy()).map((it) => [it.file.name, it.state, it.life.state,
+    app.view.smalls.queue.running, app.faxes.filter((it) => it.isBusy()).map((it) => [it.file.name, it.state, it.life.state,
         it.life.calls.size])])"""
 
 
@@ -398,10 +493,11 @@ def operated(browser: Browser, program: str, room: str) -> Generator[Claim, None
     browser.run(WATCH)
     known = contents.all_contents(program, room)
     yield "contents were drawn", len(known) > 12, True
-    first, most, looks, opened = browser.memory(), 0, 0, 0
+    first, grew, looks, opened = browser.memory(), 0, 0, 0
     episodes = [int(ONE)] if ONE else range(STEPS // EPISODE)
     for episode in episodes:
-        operator = Operator(browser, room, known, f"{SEED} {episode}")
+        most = MANY_OPEN if episode % EACH_MANY == 1 else MOST_OPEN
+        operator = Operator(browser, room, known, f"{SEED} {episode}", most)
         for at in range(EPISODE):
             operator.step(grows=at < EPISODE * 0.7)
             opened = max(opened, len(operator.opened))
@@ -411,7 +507,7 @@ def operated(browser: Browser, program: str, room: str) -> Generator[Claim, None
                 wrong = operator.look()
                 looks += 1
                 grown, workers = grown_by(browser, first), browser.run("watched.live.size")
-                most = max(most, grown)
+                grew = max(grew, grown)
                 if grown > browser.LATE + OF_A_WORKER * workers:
                     wrong.append(f"{workers} workers, and {grown >> 20} MB of memory more than at first")
                 yield f"episode {episode}, step {at}, after {operator.done[-6:]}", wrong, []
@@ -421,4 +517,4 @@ def operated(browser: Browser, program: str, room: str) -> Generator[Claim, None
         yield f"episode {episode}: nothing is left", browser.run(
             "[watched.live.size, watched.urls.size, document.getElementById('fax').hidden]"), [0, 0, True]
     print(f"(operated: seed {SEED}, {len(episodes) * EPISODE} steps, {looks} looks, {opened} files open at most, "
-          f"{most / 2 ** 20:.0f} MB more than at first)")
+          f"{grew / 2 ** 20:.0f} MB more than at first)")

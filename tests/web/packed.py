@@ -127,8 +127,8 @@ def described(folder: str) -> Generator[Claim, None, None]:
     with open(f"{TOP}/rust/Cargo.toml", encoding="utf-8") as crate:
         place = found(r'(?m)^repository = "(.*)"$', crate.read())[1]
     yield "npm: its repository is the crate's", about["repository"], {"type": "git", "url": place}
-    yield "npm: it has keywords, and nothing happens by loading it", (len(about["keywords"]) > 5, about["sideEffects"]), (
-        True, False)
+    yield "npm: it has keywords, and nothing happens by loading it", (
+        len(about["keywords"]) > 5, about["sideEffects"]), (True, False)
     yield "npm: on which Node it works", about["engines"], {"node": ">=18"}
     for name in ("faxpages.d.mts", "faxpages.d.cts"):
         text = get(f"{folder}/node_modules/faxpages/{name}").decode()

@@ -101,16 +101,16 @@ def chosen(browser: Browser, room: str) -> Generator[Claim, None, None]:
     """Pages that are chosen are printed alone; what names no page is refused, and nothing is printed."""
     opened(browser, f"{TOP}/samples/three-pages.tif")
     for text, wanted in (("2", 1), ("1-2", 2), (" 3, 1 ", 2), ("1-3,2", 3), ("", 3)):
-        browser.run(f"""document.getElementById("print-pages").value = "{text}";
+        browser.run(f"""document.getElementById("chosen").value = "{text}";
             document.getElementById("print").click()""")
         asked(browser)
         yield f"pages {text!r}", len(sheets(browser.printed(), room)), wanted
     for text in ("4", "0", "2-1", "all", "1-99999999999"):
-        browser.run(f"""document.getElementById("print-pages").value = "{text}";
+        browser.run(f"""document.getElementById("chosen").value = "{text}";
             document.getElementById("print").click()""")
         yield f"pages {text!r} are refused", browser.run(
             '[document.getElementById("printing").textContent, asked]'), ["Say pages from 1 to 3, as 1-3, 5.", 0]
-    browser.run('document.getElementById("print-pages").value = ""')
+    browser.run('document.getElementById("chosen").value = ""')
 
 
 def many(browser: Browser, program: str, room: str) -> Generator[Claim, None, None]:
@@ -119,7 +119,7 @@ def many(browser: Browser, program: str, room: str) -> Generator[Claim, None, No
     browser.run('document.getElementById("print").click()')
     yield "301 pages are too many", browser.run('[document.getElementById("printing").textContent, asked]'), [
         "300 pages are printed at once at most. Say which, as 1-300, or save the fax as PDF, and print that.", 0]
-    browser.run("""document.getElementById("print-pages").value = "298-301"; document.getElementById("print").click()""")
+    browser.run("""document.getElementById("chosen").value = "298-301"; document.getElementById("print").click()""")
     asked(browser)
     yield "some of them are printed", len(browser.printed()) > 0, True
 

@@ -5,6 +5,7 @@ from __future__ import annotations
 
 import base64
 import glob
+import json
 import os
 import re
 import shutil
@@ -29,9 +30,42 @@ def printed(*words: str) -> str:
     return subprocess.run(words, cwd=TOP, capture_output=True, check=False).stdout.decode().strip()
 
 
+# What differs between the texts of languages: names, places for values, and numbers.
+DIFFERENCES = r"""
+const { readFileSync } = require("node:fs");
+const { runInNewContext } = require("node:vm");
+const texts = process.argv.slice(1).map((name) => readFileSync(name, "utf8")).join("\n");
+const [[, english], ...others] = runInNewContext(`${texts}; [...LANGUAGES]`);
+const parts = (text) => [text.match(/\{\d\}/g) ?? [],
+    (text.replace(/\{\d\}/g, "").match(/\d(?:[.,]?\d)*/g) ?? []).map((it) => it.replace(/\D/g, ""))]
+    .map((it) => it.sort().join()).join("|");
+const keys = (one, other) => [...new Set([...Object.keys(one), ...Object.keys(other)])];
+const differ = (one, other, path) => typeof one !== typeof other ? [path]
+    : typeof one === "string" ? (parts(one) === parts(other) && (other || !one) ? [] : [path])
+    : keys(one, other).flatMap((key) => differ(one[key], other[key], `${path} ${key}`));
+const same = (one, other, path) => typeof one === "string" ? (one === other && one.length > 25 ? [path] : [])
+    : Object.keys(one).flatMap((key) => same(one[key], other[key], `${path} ${key}`));
+console.log(JSON.stringify(others.map(([code, it]) => [code, differ(english, it, code), same(english, it, code)])));
+"""
+
+
 def claims() -> Generator[Claim, None, None]:
     yield from module_is_of_these_sources()
     yield from sources_are_in_form()
+    yield from languages_are_one()
+
+
+def languages_are_one() -> Generator[Claim, None, None]:
+    """Each language has each text, with the same places for values and the same numbers, in words of its own."""
+    if not shutil.which("node"):
+        return
+    names = [f"{WEB}/texts.js", *sorted(glob.glob(f"{WEB}/texts-*.js"))]
+    told = json.loads(printed("node", "-e", DIFFERENCES, *names))
+    yield "there is a language beside English", [code for code, _, _ in told], [
+        re.sub(r".*texts-(\w+)\.js", r"\1", name) for name in names[1:]]
+    for code, others, same in told:
+        yield f"{code}: texts that say something else", others, []
+        yield f"{code}: texts that are English", same, []
 
 
 def module_is_of_these_sources() -> Generator[Claim, None, None]:
