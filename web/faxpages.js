@@ -334,6 +334,7 @@ class App {
         }
         this.thumbs.show(fax, this.page, this.picked(fax));
         this.view.show(fax, this.page);
+        this.renderZoom();
         this.makings.show(fax);
         this.settle(fax);
     }
@@ -453,7 +454,6 @@ class App {
         }
         the("page").max = String(Math.max(1, fax.pages));
         the("of").textContent = say(texts.of, fax.pages);
-        this.renderZoom();
         the("before").disabled = this.page === 0;
         the("next").disabled = this.page >= fax.pages - 1;
         const resolution = form && form.across > 0 && form.down > 0 && TEXTS.units[form.unit]

@@ -27,6 +27,8 @@ class Roll {
         /** What of the beginning is above what the bar scrolls, and where the bar was. */
         this.base = 0;
         this.before = 0;
+        /** Where the bar was put, until somebody moves it. */
+        this.put = NaN;
         this.timer = 0;
         /** Pages that together are less high than the view stand in its middle. */
         this.isCentred = true;
@@ -101,22 +103,25 @@ class Roll {
         const wanted = Math.max(0, Math.min(most, top));
         const place = this.isShort ? Math.round((wanted / most) * bar) : wanted;
         this.base = this.isShort ? Math.round(wanted) - place : 0;
-        this.before = place;
+        this.before = this.put = place;
         this.view.scrollTo(left, place);
         this.placed();
     }
 
-    /** Whether what is seen stands where it was gone to, and nobody has scrolled from there. */
-    get isSteady() {
-        return Math.abs(this.view.scrollTop - this.before) <= 1;
+    /** The bar was moved, or the pages were: whether somebody did so, and it does not stand where it was put. */
+    moved() {
+        const isByHand = !(Math.abs(this.view.scrollTop - this.put) <= 1);
+        this.put = isByHand ? NaN : this.put;
+        if (this.isShort) {
+            this.step();
+        } else {
+            this.base = 0;
+        }
+        return isByHand;
     }
 
-    /** The bar was moved, or the pages were. */
-    moved() {
-        if (!this.isShort) {
-            this.base = 0;
-            return;
-        }
+    /** A step of a bar that is shorter than the pages. */
+    step() {
         const { scrollTop, clientHeight, scrollLeft } = this.view;
         const [most, bar] = this.most;
         const step = Math.abs(scrollTop - this.before);

@@ -146,9 +146,9 @@ class View {
         /** How much room pages have, across and down. */
         this.room = [50, 50];
         view.addEventListener("scroll", () => {
-            this.scrolled = this.roll.isSteady ? -View.REST : performance.now();
-            this.roll.moved();
-            this.follow();
+            const isByHand = this.roll.moved();
+            this.scrolled = isByHand ? performance.now() : -View.REST;
+            this.follow(isByHand);
             this.plan();
         });
         new ResizeObserver(() => this.lay()).observe(view);
@@ -290,11 +290,13 @@ class View {
         return (top - View.GAP <= middle && bottom + View.GAP > middle) || (top >= from && bottom <= to);
     }
 
-    /** Takes the page that has come into the middle for the one that is looked at, once that is not all in sight. */
-    follow() {
+    /** Takes the page that has come into the middle for the one that is looked at, once that is not all in sight; but
+     * not where nobody has scrolled: the view itself becomes less high as something is said above it.
+     * @param {boolean} isByHand */
+    follow(isByHand) {
         const { roll, view, page } = this;
         const other = roll.pageAt(roll.top + view.clientHeight / 2);
-        const hasMoved = this.fax !== null && roll.pages > 0 && other !== page && !this.isLookedAt(page);
+        const hasMoved = isByHand && this.fax !== null && roll.pages > 0 && other !== page && !this.isLookedAt(page);
         this.page = hasMoved ? other : page;
         this.stand();
         if (hasMoved) {

@@ -513,7 +513,7 @@ def operated(browser: Browser, program: str, room: str) -> Generator[Claim, None
                 yield f"episode {episode}, step {at}, after {operator.done[-6:]}", wrong, []
                 if wrong:
                     break
-        browser.run("watched.release(); while (app.fax) app.close()")
+        browser.run("watched.release(); localStorage.clear(); while (app.fax) app.close()")
         yield f"episode {episode}: nothing is left", browser.run(
             "[watched.live.size, watched.urls.size, document.getElementById('fax').hidden]"), [0, 0, True]
     print(f"(operated: seed {SEED}, {len(episodes) * EPISODE} steps, {looks} looks, {opened} files open at most, "
