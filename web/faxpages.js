@@ -124,12 +124,17 @@ class App {
                 does();
             });
         }
+        document.addEventListener("keydown", (event) => this.key(event));
+        this.listenForReloads();
+    }
+
+    /** What is kept over a reload: files, where that is wanted, and which one is shown at which page. */
+    listenForReloads() {
         the("keep").addEventListener("change", () => this.keeping.change(this.faxes));
         addEventListener("pagehide", () => {
             const kept = this.faxes.filter((fax) => this.keeping.has(fax));
             this.keeping.note({ shown: kept.findIndex((fax) => fax === this.fax), pages: kept.map(({ at }) => at) });
         });
-        document.addEventListener("keydown", (event) => this.key(event));
     }
 
     /** On a narrow screen, or one that shows all large, what is not the page is folded: the page comes first. */

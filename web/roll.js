@@ -30,8 +30,9 @@ class Roll {
         /** Where the bar was put, until somebody moves it. */
         this.put = NaN;
         this.timer = 0;
-        /** Pages that together are less high than the view stand in its middle. */
+        /** Pages that together are less high than the view stand in its middle, so far from its top. */
         this.isCentred = true;
+        this.shift = 0;
     }
 
     get pages() {
@@ -60,8 +61,7 @@ class Roll {
 
     /** @param {number} page */
     topOf(page) {
-        const shift = this.isCentred ? Math.max(0, Math.floor((this.view.clientHeight - this.total) / 2)) : 0;
-        return (this.tops[page] ?? 0) + shift;
+        return (this.tops[page] ?? 0) + this.shift;
     }
 
     /** @param {number} page */
@@ -93,7 +93,9 @@ class Roll {
 
     /** Makes what the bar scrolls as high as the pages are. */
     lay() {
-        this.all.style.height = `${Math.max(Math.min(this.total, Roll.MOST), this.view.clientHeight)}px`;
+        const high = this.view.clientHeight;
+        this.shift = this.isCentred ? Math.max(0, Math.floor((high - this.total) / 2)) : 0;
+        this.all.style.height = `${Math.max(Math.min(this.total, Roll.MOST), high)}px`;
     }
 
     /** Goes to a place.

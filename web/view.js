@@ -76,9 +76,9 @@ class Blank {
         this.element.remove();
     }
 
-    /** @param {View} view */
-    lay({ view }) {
-        const wide = Math.max(50, Math.min(Blank.WIDE, view.clientWidth - 2 * Roll.GAP));
+    /** @param {number} across how wide the view is */
+    lay(across) {
+        const wide = Math.max(50, Math.min(Blank.WIDE, across - 2 * Roll.GAP));
         this.element.style.width = `${wide}px`;
         this.element.style.height = `${Blank.HIGH}px`;
         return wide;
@@ -263,21 +263,22 @@ class View {
             this.standIn(page);
         } else {
             this.blanks.set(page, made);
-            made.lay(this);
         }
     }
 
     /** Puts what stands there to its place: narrow pages into the middle. */
     place() {
-        const { roll, view } = this;
+        const { roll } = this;
+        // Read once: what was read after a write would be laid out anew for each page.
+        const across = this.view.clientWidth;
         let most = 0;
         for (const it of [...this.sheets.values(), ...this.blanks.values()]) {
-            const wide = it instanceof Sheet ? it.wide : it.lay(this);
+            const wide = it instanceof Sheet ? it.wide : it.lay(across);
             it.element.style.top = `${roll.topOf(it.page) - roll.base}px`;
-            it.element.style.left = `${Math.max(View.GAP, Math.round((view.clientWidth - wide) / 2))}px`;
+            it.element.style.left = `${Math.max(View.GAP, Math.round((across - wide) / 2))}px`;
             most = Math.max(most, wide + 2 * View.GAP);
         }
-        this.all.style.width = most > view.clientWidth ? `${most}px` : "100%";
+        this.all.style.width = most > across ? `${most}px` : "100%";
     }
 
     /** Whether a page is across the middle of what is seen, or wholly in sight.
