@@ -10,6 +10,7 @@ import os
 import re
 import shutil
 import subprocess
+import sys
 import tempfile
 from typing import Generator
 
@@ -26,6 +27,8 @@ async function tried(): Promise<void> {
     const fault: FaxFault | null = faxpages.check(new DataView(new ArrayBuffer(0))).fault;
     for (const { bytes } of faxpages.rows(new Uint8Array(0))) bytes.subarray(1);
     for (const { runs } of faxpages.runs(new Uint8Array(0))) runs.map((run) => run + 1);
+    const bad: number | null = faxpages.received(new Uint8Array(0), 0).badRows;
+    widths.push(bad ?? 0);
     for (const { lost } of faxpages.salvage(new Uint8Array(0))) lost.map((it) => it.rows + widths.length);
     const made: Uint8Array = faxpages.convert(new Uint8Array(0), "mmr");
     const written: Uint8Array = faxpages.write([...faxpages.salvage(made)].filter(({ form }) => form), "mr");
@@ -47,8 +50,8 @@ faxpages.opened(new Uint8Array(0))
 Faxpages.load("faxpages.wasm")
 """
 # What a user sees of the package, and what of it is inside.
-SEEN = ["BareFax", "Bytes", "FaxFault", "Faxpages", "HowCoded", "Lost", "Note", "Page", "PageToWrite", "Picture", "Row",
-        "Runs", "Salvaged"]
+SEEN = ["BareFax", "Bytes", "FaxFault", "Faxpages", "HowCoded", "Lost", "Note", "Page", "PageToWrite", "Picture",
+        "Received", "Row", "Runs", "Salvaged"]
 INSIDE = re.compile(r"Library|Cursor|WebAssembly\.Memory|faultOf|takeFile")
 
 
@@ -82,6 +85,7 @@ def claims(program: str) -> Generator[Claim, None, None]:
         yield from described(f"{room}/user")
         yield from types(f"{room}/user")
         yield from explains(f"{room}/user")
+        yield from receives(f"{room}/user")
         yield from later.in_node(f"{room}/user", run)
         yield from readme_reads(program, f"{room}/user")
         yield from called.example(program, f"{room}/user", run)
@@ -93,6 +97,19 @@ def claims(program: str) -> Generator[Claim, None, None]:
 def module_of_the_page() -> bytes:
     text = get(f"{TOP}/web/faxpages.wasm.js").decode()
     return base64.b64decode(text.partition("`\n")[2].partition("`;")[0])
+
+
+def receives(folder: str) -> Generator[Claim, None, None]:
+    """What the receivers of drawn pages counted is what the plain reading finds."""
+    drawn = subprocess.run([sys.executable, f"{TOP}/tests/library/receivers.py", "500"], capture_output=True, check=True)
+    put(f"{folder}/receivers", drawn.stdout)
+    shutil.copy(f"{TOP}/tests/web/received-in-node.mjs", folder)
+    pages = [line.split()[1:7] for line in drawn.stdout.decode().splitlines()]
+    there = [numbers for status, _, _, *numbers in pages if status == "0"]
+    found = sum(number != "-" for numbers in there for number in numbers)
+    yield "npm: many receivers counted", len(there) > 500 and found > 1000, True
+    yield "npm: what receivers counted is told", run(folder, "node", "received-in-node.mjs", "receivers"), (
+        0, f"{len(pages)} pages, {len(there)} there, {found} numbers\n")
 
 
 def explains(folder: str) -> Generator[Claim, None, None]:

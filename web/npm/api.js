@@ -5,6 +5,7 @@
  * @typedef {import("./types").Row} Row
  * @typedef {import("./types").Runs} Runs
  * @typedef {import("./types").Note} Note
+ * @typedef {import("./types").Received} Received
  * @typedef {import("./types").Lost} Lost
  * @typedef {import("./types").Salvaged} Salvaged
  * @typedef {import("./types").HowCoded} HowCoded
@@ -263,6 +264,25 @@ export class Faxpages {
                 name: library.name("note", number) };
         });
         return { pages, rows, notes: told, fault: fault.number ? Faxpages.faultOf(library, fault) : null };
+    }
+
+    /** What the receiver of a page counted of bad rows: no row is looked at, and these fields are never a fault. Another
+     * fault up to the page is thrown, and a RangeError where the file has no such page.
+     * @param {Bytes} file @param {number} page from 0 @returns {Received} */
+    received(file, page) {
+        Arguments.number(page, "a page", 0, 4294967295);
+        const library = this.opened(file);
+        const { status, found: [badRows, clean, consecutive], fault } = library.received(page);
+        if (status === Library.FAULT) {
+            throw Faxpages.faultOf(library, fault);
+        }
+        if (status === Library.END || status === Library.OUTSIDE) {
+            throw new RangeError(`the fax has no page ${page}: pages are numbered from 0`);
+        }
+        if (status !== Library.DONE) {
+            throw Library.refusal(status);
+        }
+        return { badRows, clean, consecutive };
     }
 
     /** What is left, page by page, also after pages that are damaged or refused; then the fault that ends the chain of

@@ -51,6 +51,18 @@ export interface Note {
     name: string;
 }
 
+/** What the receiver of a page counted of bad rows, those that it could not read (RFC 2306). A number is null where the
+ * page has no such field, or one that is neither SHORT nor LONG, or whose first value lies outside the file. */
+export interface Received {
+    /** How many rows were bad: field 326, BadFaxLines. */
+    badRows: number | null;
+    /** 0 where no row was bad; 1 where some were, and the receiver put other rows in their places; 2 where bad rows stand
+     * in the data: field 327, CleanFaxData. */
+    clean: number | null;
+    /** How many bad rows came one after another, at most: field 328, ConsecutiveBadFaxLines. */
+    consecutive: number | null;
+}
+
 export interface Lost {
     /** The first row that is lost, from 0. */
     row: number;
@@ -149,6 +161,9 @@ export class Faxpages {
     runs(file: Bytes): Generator<Runs, void, void>;
     /** Reads all rows: how many pages and rows there are before the first fault, and the notes on them. */
     check(file: Bytes): { pages: number; rows: number; notes: Note[]; fault: FaxFault | null };
+    /** What the receiver of a page, numbered from 0, counted of bad rows. Another fault up to the page is thrown, and a
+     * RangeError where the file has no such page. */
+    received(file: Bytes, page: number): Received;
     /** What is left, page by page, also after pages that are damaged or cannot be read; then the fault that ends the
      * chain of pages is thrown, if there is one. */
     salvage(file: Bytes): Generator<Salvaged, void, void>;
