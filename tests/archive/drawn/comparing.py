@@ -552,7 +552,9 @@ class Comparison:
             return False
         lacks = set(self.episode.lacks[fax.data]) - set(self.words.give_up)
         wanted = self.model.wanted(self.world, self.job, path, fax)
-        ours = all(self.model.owned(self.job, name) == data for name, data in wanted.items())
+        # A copy that was changed without a trace before is seen where it is compared.
+        ours = all(self.model.owned(self.job, name) == data and not self._has_rotted(name)
+                   for name, data in wanted.items())
         return self._is_sure(path) and not lacks and not fax.written and ours and self.job.to[0] != "pbm"
 
     def _folded(self) -> None:
