@@ -25,6 +25,10 @@ if TYPE_CHECKING:
 NOT_MARKED = Verdict(NOT_READ, "NoMark")
 
 
+# What was written later changed amid a run.
+AMID = 1_600_000_000
+
+
 class Difference(Exception):
     """What was done is not what the model says."""
 
@@ -548,7 +552,8 @@ class Comparison:
     def _may_go(self, path: bytes) -> bool:
         """Whether it is sure that nothing keeps a good fax."""
         fax = self._share()[path]
-        if path in self.turned or fax.data is None or self.model.teller.verdict(fax.data).status:
+        # One that changed amid a run may be young; all others are of some years ago.
+        if path in self.turned or fax.data is None or fax.mtime > AMID or self.model.teller.verdict(fax.data).status:
             return False
         lacks = set(self.episode.lacks[fax.data]) - set(self.words.give_up)
         wanted = self.model.wanted(self.world, self.job, path, fax)
