@@ -112,12 +112,16 @@ def renewed(room: Room, *_given: object) -> None:
         room.claim(f"{way}: {ran.error}", (ran.status, SAID in ran.error, "--renew makes it anew" in ran.error,
                    os.path.exists(f"{place}/t.sqlite-damaged")), (3, True, True, False))  # fmt: skip
         put(f"{place}/t.sqlite-damaged", b"of somebody else")
+        put(f"{place}/t.sqlite-new", b"of somebody else")
+        put(f"{place}/.t.sqlite.new-letters", b"of somebody else")
         copies = files_below(f"{place}/copies")
         ran = playing.run(words_of(place, "--renew"), place, playing.Trouble())
         with open(f"{place}/t.sqlite-damaged-2", "rb") as file:
             kept = file.read() == damaged
         same = rows_of(room, place) == before, files_below(f"{place}/copies") == copies
-        room.claim(f"{way}: renewed: {ran.error}{ran.out}", (ran.status, kept, *same), (0, True, True, True))
+        others = [os.path.getsize(f"{place}/{name}") for name in ("t.sqlite-new", ".t.sqlite.new-letters")]
+        room.claim(f"{way}: renewed: {ran.error}{ran.out}", (ran.status, kept, *same, others), (
+            0, True, True, True, [16, 16]))
         put(f"{place}/tree/9.tif", other)
         put(f"{place}/tree/3.tif", other)
         ran = playing.run(words_of(place, "--names"), place, playing.Trouble())
@@ -263,7 +267,7 @@ def renewed_amid(room: Room, *_given: object) -> None:
         only = verify(place)
         with open(f"{place}/copies/7.tif", "rb") as file:
             same = file.read() == faxpages.convert(other, "mmr")
-        left = [name for name in os.listdir(place) if "-new" in name or "-damaged-" in name]
+        left = [name for name in os.listdir(place) if ".new-" in name or "-damaged-" in name]
         if (ran.status, only.status, only.out.partition(":")[0], same, left) != (0, 0, "only copies 6", True, []):
             wrong.append((at, ran, only, left))
         if first.status != -signal.SIGKILL or len(wrong) > 2:

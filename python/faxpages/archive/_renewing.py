@@ -8,8 +8,11 @@ import contextlib
 import errno
 import json
 import os
+import re
 import shutil
 import sqlite3
+import stat
+import tempfile
 from typing import Any, Iterator, List, Set, Tuple
 
 from . import _files as files
@@ -19,34 +22,49 @@ from ._run import say
 from ._table import Table
 
 
+# How a table is called while it is made, after the name that it will have; and what stands beside it then.
+_MADE = re.compile(r"\.new-[a-z0-9_]{8}(-journal|-lock)?")
+
+
 def renew(name: str, job: Job) -> str:
     """Makes a damaged table anew: under which name the old one is kept."""
     name = os.path.realpath(name)
-    new = f"{name}-new"
     try:
         lock = files.lock(f"{name}-lock")
     except BlockingIOError:
         raise TableError(f"another run writes to {name}") from None
     with lock:
-        _drop(new)
+        folder, last = os.path.split(name)
+        beginning = os.fsdecode(b"." + os.fsencode(last)[:99])
+        _sweep(folder, beginning)
+        number, new = tempfile.mkstemp(prefix=f"{beginning}.new-", dir=folder)
+        os.close(number)
+        os.chmod(new, stat.S_IMODE(os.stat(name).st_mode))
         with Table(new) as table:
             _take_over(table, name, job)
         os.unlink(f"{new}-lock")
         aside = _keep_aside(name)
         os.replace(new, name)
-        folder = os.open(os.path.dirname(name), os.O_RDONLY)
-        try:
-            os.fsync(folder)
-        finally:
-            os.close(folder)
+        _keep_names(folder)
     return aside
 
 
-def _drop(new: str) -> None:
-    """Takes away what a run has left which was killed while it made a table anew."""
-    for end in ("", "-journal", "-lock"):
-        with contextlib.suppress(FileNotFoundError):
-            os.unlink(new + end)
+def _sweep(folder: str, beginning: str) -> None:
+    """Takes away what runs have left that were killed while they made a table anew, and nothing else."""
+    for name in os.listdir(folder):
+        if name.startswith(beginning) and _MADE.fullmatch(name[len(beginning):]):
+            path = os.path.join(folder, name)
+            if stat.S_ISREG(os.lstat(path).st_mode):
+                os.unlink(path)
+
+
+def _keep_names(folder: str) -> None:
+    """Sees to it that the names of a folder are on the disk."""
+    number = os.open(folder, os.O_RDONLY)
+    try:
+        os.fsync(number)
+    finally:
+        os.close(number)
 
 
 def _keep_aside(name: str) -> str:
