@@ -71,8 +71,8 @@ class LostRows {
 class Fax extends Known {
     /** The classes that a worker is made of. */
     static WORKER = [
-        Library, Writing, Cursor, Form, Left, Salvaging, Kinds, Reading, Drawing, Shrunk, Cells, Pdf, Png, Rows, Saving,
-        Importing, Wrapping, Guessing, Broken, FaxWorker,
+        Library, Writing, Cursor, Form, Left, Salvaging, Kinds, Reading, Drawing, Shrunk, Cells, Turning, Pdf, Png,
+        Rows, Saving, Importing, Wrapping, Guessing, Broken, FaxWorker,
     ];
     static ids = 0;
 

@@ -536,7 +536,7 @@ class App {
         }
         const texts = TEXTS.copying;
         try {
-            const picture = fax.ask("save", { kind: "png", pages: [page], coding: 0, turns: 0 });
+            const picture = fax.ask("save", { kind: "png", pages: [page], coding: 0, turns: [fax.turnsOf(page)] });
             await navigator.clipboard.write([new ClipboardItem({ "image/png": picture })]);
             this.notify(say(texts.copied, sayPage(page)));
         } catch (error) {

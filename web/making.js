@@ -75,7 +75,7 @@ class Makings {
         if (this.working) {
             return;
         }
-        const there = kind === "png" ? [page] : kind === "pdf" ? fax.shownPages() : fax.wholePages();
+        const there = kind === "png" ? [page] : kind === "pbm" ? fax.wholePages() : fax.shownPages();
         const pages = chosen && kind !== "png" ? there.filter((it) => chosen.includes(it)) : there;
         const making = new Making(Makings.nameOf(fax, kind, page, chosen), this.changed);
         fax.setMaking(making);
@@ -110,11 +110,13 @@ class Makings {
     static saidOf(fax, kind, name, pages, chosen) {
         const wanted = chosen?.length ?? fax.pages;
         const isLess = !["png", "text"].includes(kind) && pages.length < wanted;
-        if (kind === "pdf" && !isLess && pages.some((page) => fax.lost.has(page))) {
-            return say(TEXTS.saving.grey, name);
+        if (isLess && kind === "pbm") {
+            return say(TEXTS.saving.less, name, pages.length, sayCount(wanted, "page"));
         }
-        return isLess ? say(TEXTS.saving.less, name, pages.length, sayCount(wanted, "page"))
-            : say(kind === "text" ? TEXTS.saving.report : TEXTS.saving.ready, name);
+        const isLossy = !["pbm", "text"].includes(kind) && pages.some((page) => fax.lost.has(page));
+        const { report, grey, white, ready, fewer } = TEXTS.saving;
+        const said = say(kind === "text" ? report : !isLossy ? ready : /^tiff/.test(kind) ? white : grey, name);
+        return isLess ? `${said} ${say(fewer, pages.length, sayCount(wanted, "page"))}` : said;
     }
 
     /** @param {Fax} fax @param {string} kind @param {number} page @param {number[] | null} chosen */

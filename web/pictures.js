@@ -101,16 +101,18 @@ class Png {
         this.pause = pause;
     }
 
-    /** @param {number} page */
-    async blob(page) {
-        const form = this.drawing.library.form(page);
+    /** @param {number} page @param {number} turns quarters to the right */
+    async blob(page, turns) {
+        const sent = this.drawing.library.form(page);
+        const form = sent && turns % 2 ? Turning.formAcross(sent) : sent;
         const [across, down] = form?.repeats ?? [1, 1];
-        if (!form || form.width * across * form.rows * down > Png.MOST_PELS) {
+        if (!sent || !form || form.width * across * form.rows * down > Png.MOST_PELS) {
             throw new Error(`page ${page + 1} is too large for a picture`);
         }
-        const bits = this.drawing.salvaging.isLossy(page, form) ? 2 : 1;
-        const packed = await Png.through(Png.stream("Compression"), this.lines(page, form, bits, across, down));
-        await this.compare(packed, page, form, bits, across, down);
+        const bits = this.drawing.salvaging.isLossy(page, sent) ? 2 : 1;
+        const turned = turns ? new Turning(this.drawing, page, sent, turns) : null;
+        const packed = await Png.through(Png.stream("Compression"), this.lines(page, form, turned, bits));
+        await this.compare(packed, page, this.lines(page, form, turned, bits));
         const head = new DataView(new ArrayBuffer(13));
         head.setUint32(0, form.width * across);
         head.setUint32(4, form.rows * down);
@@ -136,31 +138,41 @@ class Png {
     }
 
     /** The lines of the picture, each after a 0, in pieces: white is the highest number, and grey is 2 of 3.
-     * @param {number} page @param {Form} form @param {number} bits @param {number} across @param {number} down */
-    async *lines(page, form, bits, across, down) {
+     * @param {number} page @param {Form} form of the picture @param {Turning | null} turned the page, if it is turned
+     * @param {number} bits */
+    async *lines(page, form, turned, bits) {
+        const [across, down] = form.repeats;
         const length = 1 + Math.ceil((form.width * across * bits) / 8);
         const step = Math.max(1, Math.floor(1000000 / (length * down)));
         for (let from = 0; from < form.rows; from += step) {
             const to = Math.min(form.rows, from + step);
             const piece = new Uint8Array((to - from) * down * length);
-            this.drawing.eachRow(page, form, from, to, (row, bytes) => {
+            const put = (/** @type {number} */ row, /** @type {(pel: number) => number} */ pelOf) => {
                 const at = (row - from) * down * length;
-                Png.putLine(piece.subarray(at + 1, at + length), bytes, form.width, across, bits);
+                Png.putLine(piece.subarray(at + 1, at + length), pelOf, form.width, across, bits);
                 for (let time = 1; time < down; time++) {
                     piece.copyWithin(at + time * length, at, at + length);
                 }
-            });
+            };
+            for (let row = from; turned && row < to; row++) {
+                const pels = turned.row(row);
+                put(row, (pel) => pels[pel]);
+            }
+            if (!turned) {
+                this.drawing.eachRow(page, form, from, to, (row, bytes) =>
+                    put(row, (pel) => Turning.pelOf(bytes, pel)));
+            }
             await this.pause();
             yield piece;
         }
     }
 
-    /** @param {Uint8Array} line @param {Uint8Array | null} bytes @param {number} width @param {number} across
+    /** @param {Uint8Array} line @param {(pel: number) => number} pelOf @param {number} width @param {number} across
      * @param {number} bits */
-    static putLine(line, bytes, width, across, bits) {
-        const white = (1 << bits) - 1;
+    static putLine(line, pelOf, width, across, bits) {
+        const numbers = [(1 << bits) - 1, 0, 2];
         for (let pel = 0, at = 0; pel < width; pel++) {
-            const number = !bytes ? 2 : bytes[pel >> 3] & (0x80 >> (pel & 7)) ? 0 : white;
+            const number = numbers[pelOf(pel)];
             for (let time = 0; time < across; time++, at += bits) {
                 line[at >> 3] |= number << (8 - bits - (at & 7));
             }
@@ -168,12 +180,11 @@ class Png {
     }
 
     /** Unpacks what was packed, and compares it with lines that are drawn anew.
-     * @param {Uint8Array} packed @param {number} page @param {Form} form @param {number} bits @param {number} across
-     * @param {number} down */
-    async compare(packed, page, form, bits, across, down) {
+     * @param {Uint8Array} packed @param {number} page @param {AsyncIterable<Uint8Array>} lines */
+    async compare(packed, page, lines) {
         const again = await Png.through(Png.stream("Decompression"), [packed]);
         let at = 0;
-        for await (const piece of this.lines(page, form, bits, across, down)) {
+        for await (const piece of lines) {
             if (!Saving.isEqual(piece, again.subarray(at, at + piece.length))) {
                 throw new Error(`page ${page + 1} was not written as it is`);
             }

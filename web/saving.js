@@ -36,7 +36,8 @@ class Rows {
 }
 
 /**
- * Makes files of pages: TIFF and PBM of those that can be read wholly, PDF of all, with lost rows grey. What was made
+ * Makes files of pages: PBM of those that can be read wholly, PDF of all, with lost rows grey, and TIFF, with lost
+ * rows white. What was made
  * is read again by the library, or unpacked, and compared with the rows of the fax before it is handed out.
  *
  * @typedef {{ at: number, length: number, page: number }} Piece
@@ -86,34 +87,69 @@ class Saving {
         return at;
     }
 
-    /** The pages as TIFF-F in a coding.
-     * @param {number[]} pages @param {number} coding */
-    async tiff(pages, coding) {
+    /** A page as it is shown, turned, with lost rows white: a raster of the other library, and its form.
+     * @param {number} page @param {number} turns quarters to the right */
+    async shown(page, turns) {
+        const form = this.formOf(page);
+        if (turns) {
+            const turned = new Turning(this.drawing, page, form, turns);
+            const size = turned.form.stride * turned.form.rows;
+            const at = this.made.room("raster", size);
+            turned.pack(this.made.bytes(at, size));
+            await this.pause();
+            return { at, form: turned.form };
+        }
+        const isLossy = this.drawing.salvaging.isLossy(page, form);
+        return { at: isLossy ? this.rasterLeft(page, form, false) : await this.rasterOf(page, form), form };
+    }
+
+    /** The pages as TIFF-F in a coding, as they are shown.
+     * @param {number[]} pages @param {number[]} turns of each, in quarters @param {number} coding */
+    async tiff(pages, turns, coding) {
         const writing = new Writing(this.made, pages.length);
         for (const [done, page] of pages.entries()) {
-            const form = this.formOf(page);
-            writing.add(form.written(coding), await this.rasterOf(page, form), form.stride);
+            const { at, form } = await this.shown(page, turns[done] ?? 0);
+            writing.add(form.written(coding), at, form.stride);
             this.tell(done + 1, 2 * pages.length);
         }
         const { at, length } = writing.end();
         this.made.file = at;
         this.made.length = length;
-        await this.compareFile(pages);
+        await this.compareFile(pages, turns);
         return new Blob([this.made.bytes(at, length)], { type: "image/tiff" });
     }
 
     /** Compares the file that was made with the pages that it was made of, row by row.
-     * @param {number[]} pages */
-    async compareFile(pages) {
+     * @param {number[]} pages @param {number[]} turns */
+    async compareFile(pages, turns) {
         const made = this.made.cursor(0, 0);
         for (const [number, page] of pages.entries()) {
-            const form = this.formOf(page);
-            await this.comparePage(made, number, page, form);
+            const { at, form } = await this.shown(page, turns[number] ?? 0);
+            for (let due = 0; due < form.rows; await this.pause()) {
+                const again = this.made.readRows(made, Math.min(Library.ROWS, form.rows - due));
+                if (again.count === 0 || !this.isRaster(again.count, number, due, at, form.stride)) {
+                    throw new Error(`page ${page + 1} was not written as it is`);
+                }
+                due += again.count;
+            }
             this.tell(pages.length + number + 1, 2 * pages.length);
         }
         if (this.made.readRows(made, 1).status !== Library.END) {
             throw new Error("more was written than there is");
         }
+    }
+
+    /** Whether so many rows that were read last, of a page that was made from a row on, are those of a raster.
+     * @param {number} count @param {number} page @param {number} from @param {number} raster @param {number} stride */
+    isRaster(count, page, from, raster, stride) {
+        for (let index = 0; index < count; index++) {
+            const made = this.made.row(index);
+            const bytes = this.made.bytes(raster + (from + index) * stride, stride);
+            if (made.page !== page || made.row !== from + index || !Saving.isEqual(made.bytes, bytes)) {
+                return false;
+            }
+        }
+        return true;
     }
 
     /** Compares a page that was made, from a place on, with a page of the fax.

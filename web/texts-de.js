@@ -73,8 +73,8 @@ LANGUAGES.set("de", {
         text: "Bericht (Text)",
         saveMake: "Speichern",
         cancel: "Abbrechen",
-        hint: "PDF und PNG haben alles, was gefunden wird, fehlende Zeilen in Grau; TIFF und PBM haben nur " +
-            "vollständige Seiten. Neben „Drucken“ und „Speichern“ lässt sich sagen, welche Seiten gemeint sind.",
+        hint: "PDF und PNG haben alles, was gefunden wird, fehlende Zeilen in Grau; TIFF hat sie in Weiß; PBM hat " +
+            "nur vollständige Seiten. Neben „Drucken“ und „Speichern“ lässt sich sagen, welche Seiten gemeint sind.",
         report: "Bericht",
         keys: "Tasten",
         letters: "Einzelne Buchstaben, Ziffern und Zeichen sind Tasten",
@@ -318,12 +318,16 @@ LANGUAGES.set("de", {
         report: "{0} wurde erzeugt.",
         less: "{0} hat {1} von {2} und wurde noch einmal gelesen und verglichen. Den anderen Seiten fehlen Zeilen; " +
             "sie sind weggelassen.",
+        fewer: "Es hat {0} von {1}: Die anderen Seiten sind nicht zu lesen.",
         pages: "-seiten-{0}",
         failed: "{0} wurde nicht erzeugt: {1}.",
         cancelled: "{0} wurde nicht erzeugt: Es wurde abgebrochen.",
         nothing: "Keine Seite ist vollständig, also ist auf diese Weise nichts zu speichern.",
         grey: "{0} wurde erzeugt, noch einmal gelesen und verglichen: Es hat alles, was gefunden ist, und fehlende " +
             "Zeilen sind grau.",
+        white: "{0} wurde erzeugt, noch einmal gelesen und verglichen: Es hat alles, was gefunden ist, und fehlende " +
+            "Zeilen sind weiß. Niemand kann sie von weißem Papier unterscheiden: Bewahren Sie auch das Fax auf, wie " +
+            "es kam.",
         link: "{0} noch einmal speichern",
         all: "Speichert {0} von {1} Dateien: {2}",
         allDone: "{0} von {1} Dateien wurden als PDF gespeichert.",

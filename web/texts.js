@@ -75,8 +75,8 @@ const ENGLISH = {
         text: "Report (text)",
         saveMake: "Save",
         cancel: "Cancel",
-        hint: "PDF and PNG have all that is found, with missing rows grey; TIFF and PBM have whole pages only. " +
-            "Beside Print and Save it can be said which pages are meant.",
+        hint: "PDF and PNG have all that is found, with missing rows grey; TIFF has it with missing rows white; PBM " +
+            "has whole pages only. Beside Print and Save it can be said which pages are meant.",
         report: "Report",
         keys: "Keys",
         letters: "Single letters, numbers and signs are keys",
@@ -313,11 +313,14 @@ const ENGLISH = {
         report: "{0} was made.",
         less: "{0} has {1} of {2}, and was read again and compared. The other pages have missing rows, and are left " +
             "out.",
+        fewer: "It has {0} of {1}: the other pages cannot be read.",
         pages: "-pages-{0}",
         failed: "{0} was not made: {1}.",
         cancelled: "{0} was not made: it was cancelled.",
         nothing: "No page is whole, so there is nothing to save in this way.",
         grey: "{0} was made, read again and compared: it has all that is found, and missing rows are grey.",
+        white: "{0} was made, read again and compared: it has all that is found, and missing rows are white. Nobody " +
+            "can tell them from white paper: keep the fax as it came, too.",
         link: "Save {0} again",
         all: "Saving {0} of {1} files: {2}",
         allDone: "{0} of {1} files were saved as PDF.",

@@ -251,11 +251,11 @@ class FaxWorker {
      * @param {{ id: number, kind: string, pages: number[], coding: number, turns: number[] }} asked */
     async save({ id, kind, pages, coding, turns }) {
         if (kind === "png") {
-            return new Png(this.drawing, this.pause).blob(pages[0]);
+            return new Png(this.drawing, this.pause).blob(pages[0], turns[0] ?? 0);
         }
         const saving = new Saving(this.drawing, this.module, this.pause,
             (done, all) => this.send({ event: "saving", id, done, all }));
-        return kind === "tiff" ? saving.tiff(pages, coding)
+        return kind === "tiff" ? saving.tiff(pages, turns, coding)
             : kind === "pdf" ? saving.pdf(pages, turns) : saving.pbm(pages);
     }
 }

@@ -9,7 +9,7 @@ import re
 import shutil
 import struct
 import subprocess
-from typing import Generator
+from typing import Any, Generator
 
 from tests import Claim
 from tests.finding import found
@@ -92,26 +92,45 @@ def as_pdf(pdf: bytes, image: bytes, room: str, size: str) -> Generator[Claim, N
 
 
 def damaged(browser: Browser, program: str, room: str) -> Generator[Claim, None, None]:
-    """Of damaged faxes: the pages that can be read wholly, row for row, and how many they are."""
-    tried = 0
+    """Of damaged faxes: as TIFF-F all pages, row for row, with white in the place of lost ones; as PBM the pages that
+    can be read wholly; and how many they are, or that rows are missing."""
+    tried, white = 0, 0
     for path in faxes.damaged(program, room)[:15]:
         opened(browser, path)
-        pages = browser.run("app.fax.wholePages()")
-        count = browser.run("app.fax.pages")
-        if not count:
-            close_all(browser)
-            continue
-        wanted = [line for at, page in enumerate(pages) for line in rows_of(program, path, page, at)]
-        got, name, said = made(browser, "tiff3")
-        if pages:
-            saved = put(f"{room}/saved.tif", got)
-            yield f"{path}: rows", faxes.said(program, "rows", saved).splitlines(), [*wanted, "end"]
-            yield f"{path}: it says how many", f"has {len(pages)} of {count} page" in said, len(pages) < count
-            tried += 1
-        else:
-            yield f"{path}: nothing is made", (got, name, "nothing to save" in said), (b"", "", True)
+        count, whole_ones = browser.run("[app.fax.pages, app.fax.wholePages()]")
+        if count:
+            widths = browser.run("app.fax.shownPages().map((page) => [page, app.fax.form(page).width])")
+            pages = [page for page, _ in widths]
+            got, name, said = made(browser, "tiff3")
+            if pages:
+                lines = faxes.said(program, "rows", put(f"{room}/saved.tif", got)).splitlines()
+                yield f"{path}: rows", lines, [*left_of(program, path, dict(widths)), "end"]
+                lacks = len(whole_ones) < len(pages)
+                yield f"{path}: it says so", ("missing rows are white" in said, "it is right" in said), (
+                    lacks, not lacks)
+                yield f"{path}: it says how many", f"has {len(pages)} of {count} page" in said, len(pages) < count
+                white += lacks
+                tried += 1
+            else:
+                yield f"{path}: nothing is made", (got, name, "nothing to save" in said), (b"", "", True)
+            said = made(browser, "pbm")[2]
+            yield f"{path}: PBM: it says how many", f"has {len(whole_ones)} of {count} page" in said, (
+                0 < len(whole_ones) < count)
         close_all(browser)
-    yield "some have pages that can be read", tried > 5, True
+    yield "some were saved, and rows of some are lost", tried > 5 and white > 5, True
+
+
+def left_of(program: str, path: str, widths: dict[int, int]) -> list[str]:
+    """The rows of pages of these widths as those of a file of them alone, as salvage prints them, with white for those
+    that are lost."""
+    lines: dict[int, list[str]] = {page: [] for page in widths}
+    for line in faxes.said(program, "salvage", path).splitlines():
+        kind, *words = line.split()
+        if kind in ("row", "lost") and int(words[0]) in lines:
+            page, row = int(words[0]), int(words[1])
+            rows = [" ".join(words[2:])] if kind == "row" else [str(widths[page])] * int(words[2])
+            lines[page] += [f"row {list(widths).index(page)} {at} {runs}" for at, runs in enumerate(rows, row)]
+    return [line for page in widths for line in lines[page]]
 
 
 def greys(browser: Browser, program: str, room: str) -> Generator[Claim, None, None]:
@@ -153,6 +172,37 @@ def turned(browser: Browser, room: str) -> Generator[Claim, None, None]:
     close_all(browser)
 
 
+def turned_pels(browser: Browser, program: str, room: str) -> Generator[Claim, None, None]:
+    """A page that was turned, whole or damaged, is turned in the TIFF file and in the PNG too; the others are not."""
+    drawn = put(f"{room}/turn.tif", faxes.drawn(program, 6))
+    for path, at in (drawn, 1), (f"{TOP}/samples/damaged-fourth-page.tif", 3):
+        before: dict[str, Any] = {}
+        for turns in range(4):
+            opened(browser, path)
+            browser.run(f"app.goTo({at}); for (let turn = 0; turn < {turns}; turn++) app.view.turn(1)")
+            png = faxes.pels_of_png(made(browser, "png")[0])
+            image = faxes.convert(program, made(browser, "tiff2")[0], "-o", "pbm")
+            pages = [(wide, high, bytes(raster)) for wide, high, raster in faxes.pels_of_pbm(image)]
+            before.setdefault("png", png)
+            before.setdefault("tiff", pages)
+            name = f"{os.path.basename(path)}: {turns} quarters"
+            yield f"{name}: PNG", png == rotated(before["png"], turns), True
+            yield f"{name}: TIFF", pages == [
+                rotated(page, turns) if number == at else page for number, page in enumerate(before["tiff"])], True
+            close_all(browser)
+        wide, high, _ = before["tiff"][at]
+        yield f"{os.path.basename(path)}: a page that is no square was turned", wide != high, True
+
+
+def rotated(picture: tuple[int, int, bytes], turns: int) -> tuple[int, int, bytes]:
+    """A picture that is turned to the right by so many quarters."""
+    wide, high, pels = picture
+    for _ in range(turns):
+        pels = b"".join(pels[at::wide][::-1] for at in range(wide))
+        wide, high = high, wide
+    return wide, high, pels
+
+
 def greys_of(data: bytes) -> list[tuple[int, int, bytes]]:
     """The width, the height and the pels of each picture of a raw PGM: 0 white, 1 black, 2 grey."""
     images = []
@@ -188,7 +238,9 @@ def pictures(browser: Browser, program: str, room: str) -> Generator[Claim, None
             drawn = faxes.picture(program, path, page)
             if drawn:
                 browser.run(f"app.goTo({page})")
-                got = made(browser, "png")[0]
+                got, _, said = made(browser, "png")
+                lacks = browser.run(f"app.fax.lost.has({page})")
+                yield f"{os.path.basename(path)}: page {page}: grey is said", "missing rows are grey" in said, lacks
                 yield f"{os.path.basename(path)}: page {page} as PNG", faxes.pels_of_png(got) == drawn[:3], True
                 yield f"{os.path.basename(path)}: page {page}: its size", got.count(b"pHYs"), 1
         close_all(browser)

@@ -88,12 +88,13 @@ def picked(browser: Browser) -> Generator[Claim, None, None]:
 
 
 def chosen_damaged(browser: Browser, program: str, room: str) -> Generator[Claim, None, None]:
-    """Of pages that are named, those are left out of a TIFF file that have missing rows, and that is said."""
+    """Of pages that are named, missing rows are white in a TIFF file, and those that have some are left out of PBM; and
+    that is said."""
     opened(browser, put(f"{room}/damaged.tif", missing.noisy(program, 32, [200, 200, 200], [0, 0, 2])))
     yield "a whole page", made(browser, "tiff3", "1")[2].startswith(
         "damaged-pages-1-mmr.tif was made, read again and compared: it is right."), True
-    yield "two, of which one is damaged", made(browser, "tiff3", "2-3")[2].startswith(
-        "damaged-pages-2-3-mmr.tif has 1 of 2 pages"), True
+    yield "two, of which one is damaged", "missing rows are white" in made(browser, "tiff3", "2-3")[2], True
+    yield "two as PBM", made(browser, "pbm", "2-3")[2].startswith("damaged-pages-2-3.pbm has 1 of 2 pages"), True
     yield "whole pages as PDF", "it is right" in made(browser, "pdf", "1-2")[2], True
     yield "a damaged one as PDF", "missing rows are grey" in made(browser, "pdf", "3")[2], True
     browser.run('document.getElementById("chosen").value = ""; while (app.fax) app.close()')

@@ -138,6 +138,13 @@ class Database:
                 self._read_as_it_stands()
             # Of rows that are the first ones of their faxes the sums are known without reading them.
             self._is_new = self._base.execute("SELECT 1 FROM faxes LIMIT 1").fetchone() is None
+        except sqlite3.DatabaseError as error:
+            self._close()
+            # One that is locked, or cannot be read, need not be damaged.
+            refused = isinstance(error, sqlite3.OperationalError) and not any(it in str(error) for it in _OF_DAMAGE)
+            if refused or not _is_database(self.name):
+                raise
+            raise Damaged(f"{self.name} is damaged: {error}") from None
         except BaseException:
             self._close()
             raise
@@ -164,12 +171,6 @@ class Database:
         except UnicodeDecodeError:
             # SQLite names what it cannot read, by bytes that Python cannot show.
             damage = ["what says which tables it has is no text"]
-        except sqlite3.DatabaseError as error:
-            # One that is locked, or cannot be read, need not be damaged.
-            refused = isinstance(error, sqlite3.OperationalError) and not any(it in str(error) for it in _OF_DAMAGE)
-            if refused or not _is_database(self.name):
-                raise
-            damage = [str(error)]
         if damage:
             raise Damaged(f"{self.name} is damaged: {damage[0]}")
 

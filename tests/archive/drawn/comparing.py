@@ -505,10 +505,21 @@ class Comparison:
             now = self.after.target.get(name)
             if now is not None and now.kind == "file":
                 right = now.data == data or (name.endswith(b".fields") and _same_but_name(now.data, data))
+                right = right or self._is_of_before(path, name, fax, now.data)
                 self.claim(right, f"good, and its copy is wrong: {name!r}")
                 stood[name] = Stood(len(now.data), now.mtime, now.data)
                 if self.words.adopt:
                     self.model.ours[self.job.table][name] = now.data
+
+    def _is_of_before(self, path: bytes, name: bytes, fax: Fax, data: bytes) -> bool:
+        """Whether a copy that stays is that of a fax before a bit of it turned, and no table knows the fax's digest."""
+        before, known = self.before.target.get(name), self.before.originals.get(path)
+        if before is None or before.data != data or (known is not None and known[:2] == (fax.size, fax.mtime)):
+            return False
+        assert fax.data is not None
+        others = [it for it in self.world.turned.get(fax.data, ()) if not self.model.teller.verdict(it).status]
+        return any(self.model.wanted(self.world, self.job, path, fax._replace(data=it)).get(name) == data
+                   for it in others)
 
     def _finished(self) -> None:
         """A run that went to its end: all rows are there, the status is the worst, and no more was done than was
