@@ -280,7 +280,7 @@ class Operator:
     def save(self) -> str:
         """Has a file be made, where that is offered."""
         if not self.shown or self.browser.run(
-                '!document.getElementById("save").checkVisibility() || document.getElementById("save-make").disabled'):
+                '!document.getElementById("save").checkVisibility() || app.makings.working !== null'):
             return ""
         kind = self.draw.choice(["pdf", "tiff3", "tiff1", "pbm", "png", "text"])
         text = self.draw.choice(["", "", "1", "2", "1-2", "3,1", "99999", "x"])
