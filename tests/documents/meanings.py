@@ -12,7 +12,7 @@ from typing import Iterator
 from tests import TOP
 
 # The faults of images, whose names may be those of pages too, and those of the library alone.
-IMAGES = "## Images"
+IMAGES = "## Faults of images"
 OF_THE_LIBRARY = {"TooManyRows"}
 # What the program alone says, and not the page for a browser: it has cursors and the system's files.
 OF_THE_PROGRAM = {"Open", "Read", "Write", "CursorOutside", "NotACursor"}

@@ -98,11 +98,11 @@ def in_words(block: Block) -> str:
 
 
 def peer(block: Block, third: bool) -> str:
-    """Whose seconds a page and job is compared with."""
+    """Whose time a page and job is compared with."""
     one = ", which reads one image where faxpages reads all" if block.job.startswith("one-") else ""
     if not third:
         return f"libtiff{one}"
-    return "libtiff, which fills no rows" if " " in block.job else f"spandsp{one}"
+    return "a libtiff that only decodes" if " " in block.job else f"spandsp{one}"
 
 
 def listed() -> List[Tuple[str, int, float, float, str]]:
@@ -116,10 +116,10 @@ def for_readme() -> str:
     count, (libtiff, _, third) = summary()["all"]
     worst, is_third = max((libtiff, False), (third, True), key=lambda it: float(it[0].ratio))
     page, pages, _, _, ratio = max(listed(), key=lambda it: float(it[4]))
-    return (f"Of {count} pages and jobs the worst, {in_words(worst)}, takes {worst.ratio} times the seconds of "
-            f"{peer(worst, is_third)}. `list` of {pages} pages, each {DRAWN[page]}, takes {ratio} times tiffinfo's.\n\n"
-            f"The geometric mean is {libtiff.mean} beside libtiff, and {third.mean} beside spandsp and a libtiff that "
-            f"fills no rows. {measured()}.")
+    return (f"Of {count} pages and jobs the worst, {in_words(worst)}, takes {worst.ratio} of the time of "
+            f"{peer(worst, is_third)}. `list` of {pages} pages, each {DRAWN[page]}, takes {ratio} times as long as tiffinfo.\n\n"
+            f"The geometric mean is {libtiff.mean} of libtiff's time, and {third.mean} of that of spandsp and a libtiff that "
+            f"only decodes. {measured()}.")
 
 
 def shown(ratio: str, goal: Optional[float]) -> str:

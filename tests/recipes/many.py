@@ -116,7 +116,7 @@ def archive_rows(room: Room) -> list[bytes]:
 
 
 TESTS: Tests = {
-    "Everyday jobs": (["xargs"], cores_by_file),
+    "A folder of faxes on many cores": (["xargs"], cores_by_file),
     "Many cores, one big file": (["parallel", "awk"], cores_by_part),
     "A Slurm array": (["python3"], slurm),
 }

@@ -1,4 +1,4 @@
-"""The recipes of docs/RECIPES.md, and the one of the README."""
+"""The recipes of docs/RECIPES.md."""
 
 from __future__ import annotations
 
@@ -11,11 +11,8 @@ SCRIPTS = os.path.join(ROOT, "recipes")
 
 def recipes() -> dict[str, str]:
     """The commands of each recipe, by its heading: a recipe has one block of them."""
-    with open(f"{ROOT}/docs/RECIPES.md") as document, open(f"{ROOT}/README.md") as readme:
+    with open(f"{ROOT}/docs/RECIPES.md") as document:
         sections = re.split(r"^## ", document.read(), flags=re.MULTILINE)[1:]
-        sections += [
-            it for it in re.split(r"^## ", readme.read(), flags=re.MULTILINE) if it.startswith("Everyday jobs\n")
-        ]
     found = {}
     for section in sections:
         heading, _, text = section.partition("\n")
