@@ -13,6 +13,12 @@ FIRST = re.compile(
     r"faxpages (\S+), measured on (\d{4}-\d\d-\d\d) at a load of (\d+(?:\.\d+)?)( \(other programs ran\))?")
 LINE = re.compile(r"(\w+) +((?:rows|check) m\w+|\w+-\w+) +((?:[\d.-]+ +){9}[\d.-]+)")
 GROUP = re.compile(r"(all|rows|check|to PBM|conversions|from PBM|one image) +(\d+)(?= )")
+# A line of memory of one job, and the heading of the lines of pages and jobs.
+JOB = re.compile(r"usual +(?:rows|check|\w+-\w+) .*\d$")
+PAGES_AND_JOBS = """
+                    1000 instructions      1000 mispredicted  milliseconds a page
+page        job      faxpages libtiff ratio faxpages libtiff  faxpages libtiff ratio     third ratio
+"""
 LISTED = re.compile(r"(\w+) +list +(\d+) +([\d.]+) +([\d.]+) +([\d.]+) +([\d.]+)")
 # Where the blocks of the summary stand in its lines, and in which columns of a page and job their numbers: ours, the
 # other's, the ratio.
@@ -127,6 +133,12 @@ def shown(ratio: str, goal: Optional[float]) -> str:
     return f"**{ratio}**" if goal is not None and ratio != "-" and float(ratio) > goal else ratio
 
 
+def tables() -> str:
+    """The tables of bench/numbers.txt but for the lines of each job, and of memory all but the worst and the mean."""
+    kept = [line for line in numbers().splitlines() if not LINE.fullmatch(line) and not JOB.match(line)]
+    return "\n".join(kept).replace(PAGES_AND_JOBS, "") + "\n"
+
+
 def goals() -> str:
     """The tables of goals, and of what was measured."""
     found = {(page, job): columns for page, job, columns in lines()}
@@ -147,7 +159,7 @@ def goals() -> str:
 
 # What is put into which document.
 PARTS = [(README, for_readme, ["README.md"]), (BENCH, measured, ["bench", "README.md"]),
-         (NUMBERS, numbers, ["bench", "README.md"]), (GOALS, goals, ["bench", "README.md"])]
+         (NUMBERS, tables, ["bench", "README.md"]), (GOALS, goals, ["bench", "README.md"])]
 
 
 def picture() -> Tuple[str, List[str]]:
