@@ -24,9 +24,7 @@ HEAD = """<!-- Made by tests/documents/structs.py of include/faxpages.h: change 
 
 # The structs of faxpages.h
 
-For who calls the library from another language: the place of each member in bytes, where a pointer has 64 bits and where it has 32, as in WebAssembly. Numbers are in the order of the machine. `tests/documents/structs.py` makes this page of the header, and compilers for C are asked whether it is so.
-
-What else such a caller needs to know:
+For callers in other languages: the offset of each member in bytes, for pointers of 64 bits and of 32, as in WebAssembly. Numbers are in the order of the machine. `tests/documents/structs.py` makes this page from the header, and compilers for C confirm it.
 
 - No pointer may be null: where a length is 0, pass the address of any byte.
 - A name that a call writes has no 0 at its end; the call returns how many bytes it has.
