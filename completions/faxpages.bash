@@ -6,6 +6,7 @@ _faxpages_options() {
     list) echo --cursor --max ;;
     rows) echo --cursor --max --long ;;
     convert) echo -o --order --k --strip --align ;;
+    check) echo --received ;;
     esac
 }
 

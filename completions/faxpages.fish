@@ -18,3 +18,5 @@ complete -c faxpages -n '__fish_seen_subcommand_from convert' -l order -x -a '1 
 complete -c faxpages -n '__fish_seen_subcommand_from convert' -l k -x -d 'in MR, code every Kth row one-dimensionally'
 complete -c faxpages -n '__fish_seen_subcommand_from convert' -l strip -x -d 'rows of a strip'
 complete -c faxpages -n '__fish_seen_subcommand_from convert' -l align -d 'end each EOL on a byte, in MH and MR'
+
+complete -c faxpages -n '__fish_seen_subcommand_from check' -l received -d 'note pages of which the receiver counted bad rows'

@@ -41,8 +41,8 @@
 #include <stdint.h>
 
 /* The version of this header, as text and as a number; faxpages_version tells the library's. */
-#define FAXPAGES_VERSION "1.13.0"
-#define FAXPAGES_VERSION_NUMBER 11300
+#define FAXPAGES_VERSION "1.14.0"
+#define FAXPAGES_VERSION_NUMBER 11400
 
 #ifdef __cplusplus
 extern "C" {
@@ -531,7 +531,9 @@ enum faxpages_note_kind {
     FAXPAGES_RETURN_TO_CONTROL = 2,    /* N2: a strip of MH or MR with a return to control */
     FAXPAGES_DATA_AFTER_END = 3,       /* N3: a strip with a 1 after its last row and end mark */
     FAXPAGES_NOT_T4_CHOICE = 4,        /* N4: a strip with a row in other codes than T.4's choice */
-    FAXPAGES_ENTRIES_OUT_OF_ORDER = 5  /* N5: a directory whose entries do not ascend */
+    FAXPAGES_ENTRIES_OUT_OF_ORDER = 5, /* N5: a directory whose entries do not ascend */
+    FAXPAGES_BAD_FAX_LINES = 6 /* N6: a page whose receiver counted bad rows: `check --received` and
+                                * faxpages_received report it, faxpages_check does not */
 };
 
 /* A note on a page, or on a strip of it. */

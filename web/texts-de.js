@@ -182,6 +182,8 @@ LANGUAGES.set("de", {
             "Weist ein anderes Programm sie ab: Speichern Sie das Fax neu."],
         EntriesOutOfOrder: ["Die Felder einer Seite stehen nicht in ihrer Reihenfolge.",
             "Öffnet ein anderes Programm sie nicht: Speichern Sie das Fax neu."],
+        BadFaxLines: ["Der Empfänger der Seite konnte einige ihrer Zeilen nicht lesen.",
+            "Stehen andere an ihrer Stelle, hat nur der Absender die Seite: Bitten Sie noch einmal um sie."],
     },
     cut: ["Ein Streifen liegt außerhalb der Datei, aber alle Zeilen der Seite sind gefunden.",
         "Öffnet ein anderes Programm die Datei nicht: Holen Sie sie noch einmal, oder speichern Sie das Fax neu."],

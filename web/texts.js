@@ -177,6 +177,8 @@ const ENGLISH = {
             "If another program refuses it: save the fax anew."],
         EntriesOutOfOrder: ["A directory's tags do not ascend.",
             "If another program does not open it: save the fax anew."],
+        BadFaxLines: ["The receiver could not read some rows of the page.",
+            "If other rows replace them, only the sender has the page: ask for it again."],
     },
     /** What is noted of a page whose data are cut, though all rows are found. */
     cut: ["A strip lies outside the file, but all rows of the page are found.",

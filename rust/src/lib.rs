@@ -674,7 +674,7 @@ pub fn convert(file: &[u8], options: &Options) -> Result<Vec<u8>, Error> {
     }
 }
 
-/// The version of the calls, as 11300 for 1.13.0: of the plain sources, or of the archive that is linked.
+/// The version of the calls, as 11400 for 1.14.0: of the plain sources, or of the archive that is linked.
 #[must_use]
 pub fn version() -> u32 {
     calls::faxpages_version()

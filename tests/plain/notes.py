@@ -7,7 +7,7 @@ import itertools
 from tests.plain.drawing import MAKE_UP, MODE_CODES, TERMINATING
 from tests.plain.reading import (
     Entries, Fault, File, Text, bits_of, chain, fault_line, next_changing, other, read_form, read_one_dimensional,
-    read_start, read_strip, read_two_dimensional, runs_of,
+    read_start, read_strip, read_two_dimensional, runs_of, scalar,
 )
 from tests.plain.tables import EOL
 
@@ -90,6 +90,26 @@ def notes_of_strip(coding: str, order: int, width: int, rows: int, data: bytes) 
     return list(itertools.compress(NAMES, holds))
 
 
+# What the receiver of a page counted of bad rows.
+
+
+def received_number(file: File, entries: Entries, tag: int) -> int | None:
+    """The number of a field that a page may have."""
+    try:
+        return scalar(file, entries, tag)
+    except Fault:
+        return None
+
+
+def received_lines(file: File, entries: Entries, page: int) -> list[str]:
+    """The line of a page of which the receiver says that rows were bad."""
+    bad, clean, consecutive = (received_number(file, entries, tag) for tag in (326, 327, 328))
+    if not bad and not clean:
+        return []
+    numbers = " ".join("-" if number is None else str(number) for number in (bad, consecutive, clean))
+    return [f"note page {page}: N6 BadFaxLines {numbers}"]
+
+
 # Files.
 
 
@@ -105,13 +125,16 @@ def is_in_order(file: File, offset: int) -> bool:
     return all(first < second for first, second in zip(tags, tags[1:]))
 
 
-def check_page(file: File, offset: int, entries: Entries, page: int) -> tuple[list[str], int, Fault | None]:
+def check_page(file: File, offset: int, entries: Entries, page: int,
+               received: bool) -> tuple[list[str], int, Fault | None]:
     """The note lines of a page, its rows that can be read, and the fault after them, if there is one."""
     try:
         form = read_form(file, entries)
     except Fault as refused:
         return [], 0, refused
     lines, read = [] if is_in_order(file, offset) else [note_line(page, None, "EntriesOutOfOrder")], 0
+    if received:
+        lines += received_lines(file, entries, page)
     for strip in range(form.strips):
         place, count = form.offsets[strip], form.counts[strip]
         if not file.has(place, count):
@@ -126,7 +149,7 @@ def check_page(file: File, offset: int, entries: Entries, page: int) -> tuple[li
     return lines, read, None
 
 
-def check_pages(data: bytes) -> tuple[list[str], int, int, tuple[int, int, Fault] | None]:
+def check_pages(data: bytes, received: bool) -> tuple[list[str], int, int, tuple[int, int, Fault] | None]:
     """The note lines of a file, how many pages and rows were read, and the fault with its place, if there is one."""
     try:
         file = File(data)
@@ -136,7 +159,7 @@ def check_pages(data: bytes) -> tuple[list[str], int, int, tuple[int, int, Fault
     lines: list[str] = []
     rows, offset = 0, file.first
     for page, entries in enumerate(directories):
-        own, read, stop = check_page(file, offset, entries, page)
+        own, read, stop = check_page(file, offset, entries, page, received)
         lines += own
         rows += read
         if stop:
@@ -146,8 +169,8 @@ def check_pages(data: bytes) -> tuple[list[str], int, int, tuple[int, int, Fault
     return lines, count, rows, (count, 0, fault) if fault else None
 
 
-def report_of(data: bytes) -> Text:
-    """What a check writes: the output, the error line and the status."""
-    lines, pages, rows, fault = check_pages(data)
+def report_of(data: bytes, received: bool = False) -> Text:
+    """What a check writes, with what receivers counted or without: the output, the error line and the status."""
+    lines, pages, rows, fault = check_pages(data, received)
     output = "\n".join([*lines, f"pages {pages} rows {rows}", ""])
     return output, fault_line(*fault) if fault else "", 1 if fault else 0

@@ -9,7 +9,8 @@
 - A verb, which is a method that changes its value, means one thing on a row's way: where a type holds another, at any
   depth, no method of either has the name of a verb of the other, unless it does no more than call that. The methods of
   traits are the traits', and the names that begin with one of SAME say what is handed out or taken, of a page as of a
-  strip."""
+  strip.
+- A word of WENT, which meant several things, is no part of a name."""
 
 from __future__ import annotations
 
@@ -23,6 +24,8 @@ from tests.specs import names
 
 # A crate's roots and its laws, as in each crate that has them.
 ROOTS = {"lib", "main", "laws", "tests"}
+# Words that meant several things, and what stands in their place: docs/GLOSSARY.md has each concept's one word.
+WENT = {"due": "upcoming", "dues": "upcoming"}
 # What the checker asks to be called so, and what only lists the files of a folder.
 LISTS = {"Answers", "Invariants", "Proof", "Lib", "code", "laws", "views", "reads"}
 # What begins the names that say what is handed out or taken; and how each reader of strips goes to another strip.
@@ -40,6 +43,10 @@ METHOD = re.compile(r"^    (?:pub(?:\([a-z]+\))? )?(?:const )?fn (\w+)(.*?)^    
 BODY = re.compile(r"\{$", re.M)
 COMMENT = re.compile(r"//.*")
 WORD = re.compile(r"[A-Za-z_]\w*")
+NAME = re.compile(r"[A-Za-z_][\w-]*")
+# A word of a name, as `upcoming_row` and `UpcomingPage` have two each.
+PART = re.compile(r"[A-Z]?[a-z]+|[A-Z]+")
+REMARK = re.compile(r"(?://|--).*")
 
 # A name, and where it stands.
 Named = tuple[str, str]
@@ -175,7 +182,19 @@ def verbs() -> Iterator[str]:
                     yield f"{name} is a verb of {outer.owner} ({outer.place}) and of {one.owner} ({one.place})"
 
 
+def words() -> Iterator[str]:
+    """Words of names."""
+    found: set[tuple[str, str]] = set()
+    for crate in crates():
+        for part, end in (("src", ".rt"), ("specs", ".antt"), ("proofs", ".antt")):
+            for path in files_in(crate, part, end):
+                found.update((name, path) for name in NAME.findall(REMARK.sub("", text_of(path)))
+                             if WENT.keys() & {word.lower() for word in PART.findall(name)})
+    for name, path in sorted(found):
+        yield f"{name} ({path}) has a word that went, of {', '.join(sorted(WENT))}"
+
+
 def faults() -> dict[str, list[str]]:
     """What is wrong of each kind of names, each as a sentence."""
     return {(kind.__doc__ or "").rstrip("."): list(kind())
-            for kind in (modules, files, types, functions, definitions, verbs)}
+            for kind in (modules, files, types, functions, definitions, verbs, words)}

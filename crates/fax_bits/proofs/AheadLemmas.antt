@@ -37,9 +37,9 @@ one_is_code = record {
 }
 
 -- what begins so many bits is no longer
-pub begun_short : {F : Type 0} {means : List Bool → F → Type 0} (n number : ℕ) {len : ℕ} {found : F}
+pub fits_in_number : {F : Type 0} {means : List Bool → F → Type 0} (n number : ℕ) {len : ℕ} {found : F}
     → IsBegun means (code_bits n number) len found → len ≤ n
-begun_short n number origin =
+fits_in_number n number origin =
     omega (
       arith,
       origin.long,
@@ -134,7 +134,7 @@ module _ (order : FillOrder) (bytes : List ℕ) (old window : Window) (source : 
         (origin : IsBegun means (code_bits n number) len found)
         (after : Window) (count : after.count + len ≡ window.count) (at : after.at ≡ window.at) where
       short : len ≤ 32
-      short = omega (arith, begun_short n number origin, few)
+      short = omega (arith, fits_in_number n number origin, few)
 
       front_left : drop (bit_offset after) (bits order bytes) ≡ drop (length origin.front) source.remaining
       front_left = left_after_code len after short count at ∙ ap (λ n. drop n source.remaining) (sym origin.long)

@@ -45,12 +45,12 @@ unfolding white_runs white_terminating white_make_up black_runs black_terminatin
 run_table_is White = refl
 run_table_is Black = refl
 
--- its entry at a place
-pub run_entry_at : (colour : Colour) (place : ℕ) → place < 105 → slice_get (run_table colour) place
+-- its entry at an index
+pub run_entry_at : (colour : Colour) (index : ℕ) → index < 105 → slice_get (run_table colour) index
     ≡ Some (record {
-      code = get_or (codes_of colour) place 0;
-      len = get_or (lens_of colour) place 0;
+      code = get_or (codes_of colour) index 0;
+      len = get_or (lens_of colour) index 0;
       meaning =
-          run_meaning place;
+          run_meaning index;
     })
-run_entry_at colour place within = grind (arith, common_steps, run_table_is, slice_get-run_entries)
+run_entry_at colour index within = grind (arith, common_steps, run_table_is, slice_get-run_entries)

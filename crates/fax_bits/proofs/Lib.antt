@@ -17,7 +17,7 @@ pub mod NumberLemmas
 pub mod OneLemmas
 pub mod TakeLemmas
 pub mod ReadLemmas
-pub mod TablePlaceLemmas
+pub mod TableIndexLemmas
 pub mod AheadLemmas
 pub mod IndexLemmas
 pub mod WordLemmas

@@ -1,4 +1,4 @@
--- The codes of modes by their places in the mode table.
+-- The codes of modes by their indexes in the mode table.
 use Rattle.std.proofs.Common.{◌≡◌, List, ◌++◌, Bool, ℕ, zero, suc, ◌-◌, ◌/◌, ◌^◌, ◌<◌, ◌≤◌, ℤ, pos, negsuc}
 use Rattle.std.proofs.Common.{unsigned_abs, get_or}
 use Rattle.std.proofs.lemmas.Grind.{common_steps}
@@ -13,14 +13,14 @@ use Rattle.fax_bits.specs.declared.mode_codes.ModeCode.TheVariants.{Pass, Horizo
 use Rattle.fax_bits.specs.declared.mode_codes.ModeCode.TheVariants.{Extension as ModeExtension}
 use Rattle.fax_bits.specs.Bits.{code_bits}
 use Rattle.fax_bits.specs.views.Codes.{HasCodeAhead, IsWritten}
-use Rattle.fax_bits.specs.code.CodePlaces.{place_of}
+use Rattle.fax_bits.specs.code.CodeIndexes.{index_of}
 use Rattle.fax_bits.specs.Codes.{Decodes, bits_of}
 use Rattle.fax_bits.specs.Written.{mode_bits}
 use Rattle.fax_bits.specs.laws.Codes.{ModeBitsAreRead}
 use Rattle.fax_bits.specs.Tables.{modes}
 use Rattle.fax_bits.proofs.FindLemmas.{code_ahead}
-use Rattle.fax_bits.proofs.IndexLemmas.{mode_place}
-use Rattle.fax_bits.proofs.TablePlaceLemmas.{found_at_place}
+use Rattle.fax_bits.proofs.IndexLemmas.{mode_index}
+use Rattle.fax_bits.proofs.TableIndexLemmas.{found_at_index}
 use Rattle.fax_bits.proofs.TableLemmas.{listed}
 
 -- a mode that is written has a distance of at most 3
@@ -28,17 +28,17 @@ few : (d : ℤ) → IsWritten (Vertical d) → unsigned_abs d < 4
 few d written = grind arith
 
 -- where the code of a distance stands, as the program finds it
-abbrev place_of_distance : ℤ → ℕ
-place_of_distance d = nat_abs (to_z w32 (of_z w32 (to_z w32 (of_z w32 (to_z w8 (of_z w8 d))) +ℤ pos 3)))
+abbrev index_of_distance : ℤ → ℕ
+index_of_distance d = nat_abs (to_z w32 (of_z w32 (to_z w32 (of_z w32 (to_z w8 (of_z w8 d))) +ℤ pos 3)))
 
--- a distance that is written is itself as a number of eight bits, and its code stands at its place
+-- a distance that is written is itself as a number of eight bits, and its code stands at its index
 pub record HasCode (d : ℤ) : Type 0 where
   pub distance_is : to_z w8 (of_z w8 d) ≡ d
-  pub short : get_or VERTICAL_CODES.lens (place_of_distance d) 0 < 8
-  pub fits : get_or VERTICAL_CODES.codes (place_of_distance d) 0 < 2 ^ get_or VERTICAL_CODES.lens (place_of_distance d)
+  pub short : get_or VERTICAL_CODES.lens (index_of_distance d) 0 < 8
+  pub fits : get_or VERTICAL_CODES.codes (index_of_distance d) 0 < 2 ^ get_or VERTICAL_CODES.lens (index_of_distance d)
       0
-  pub bits : code_bits (get_or VERTICAL_CODES.lens (place_of_distance d) 0)
-      (get_or VERTICAL_CODES.codes (place_of_distance d) 0)
+  pub bits : code_bits (get_or VERTICAL_CODES.lens (index_of_distance d) 0)
+      (get_or VERTICAL_CODES.codes (index_of_distance d) 0)
       ≡ mode_bits (Vertical d)
 
 pub has_code : (d : ℤ) → IsWritten (Vertical d) → HasCode d
@@ -46,9 +46,9 @@ unfolding modes mode_bits code_bits
 has_code d written = grind (arith, common_steps)
 
 -- a mode that is written is read again
-takes_mode : (place : ℕ) (entry : CodeEntry ModeCode) (more : List Bool) → slice_get modes place ≡ Some entry
+takes_mode : (index : ℕ) (entry : CodeEntry ModeCode) (more : List Bool) → slice_get modes index ≡ Some entry
     → bits_of entry ≡ mode_bits entry.meaning → Decodes modes (mode_bits entry.meaning ++ more) entry.meaning more
-takes_mode place entry more found same = grind (arith, listed)
+takes_mode index entry more found same = grind (arith, listed)
 
 pub mode_bits_are_read : ModeBitsAreRead
 unfolding modes mode_bits code_bits
@@ -67,9 +67,9 @@ mode_bits_are_read (Vertical (negsuc (suc (suc (suc n))))) more written =
 mode_bits_are_read ModeExtension more written = absurd written
 
 -- a code of the table that is the first of thirteen bits
-pub mode_begins : (number place : ℕ) (entry : CodeEntry ModeCode) → slice_get modes place ≡ Some entry → entry.len ≤ 13
+pub mode_begins : (number index : ℕ) (entry : CodeEntry ModeCode) → slice_get modes index ≡ Some entry → entry.len ≤ 13
     → number / 2 ^ (13 - entry.len) ≡ entry.code → HasCodeAhead modes (code_bits 13 number) entry.len entry.meaning
-mode_begins number place entry found short is = grind (arith, common_steps, listed, code_ahead)
+mode_begins number index entry found short is = grind (arith, common_steps, listed, code_ahead)
 
 -- the length of a vertical mode's code, and how far right of b1 a1 is
 abbrev vertical_len : ModeCode → ℕ → ℕ
@@ -80,7 +80,7 @@ abbrev vertical_shift : ModeCode → ℤ
 vertical_shift (Vertical d) = d
 vertical_shift _ = pos 0
 
--- of the entry at a place, if it is one of a vertical mode
+-- of the entry at an index, if it is one of a vertical mode
 abbrev len_at : Option (CodeEntry ModeCode) → ℕ
 len_at None = 0
 len_at (Some entry) = vertical_len entry.meaning entry.len
@@ -93,19 +93,19 @@ shift_at (Some entry) = vertical_shift entry.meaning
 abbrev read_shift : ℤ → ℤ
 read_shift d = to_z w8 (of_z w8 d)
 
-lens_are : VERTICAL_MODES.lens ≡ map (λ place. len_at (slice_get modes place)) MODE_INDEXES
+lens_are : VERTICAL_MODES.lens ≡ map (λ index. len_at (slice_get modes index)) MODE_INDEXES
 unfolding modes
 lens_are = refl
 
-shifts_are : map read_shift VERTICAL_MODES.shifts ≡ map (λ place. shift_at (slice_get modes place)) MODE_INDEXES
+shifts_are : map read_shift VERTICAL_MODES.shifts ≡ map (λ index. shift_at (slice_get modes index)) MODE_INDEXES
 unfolding modes
 shifts_are = refl
 
--- the code at a place begins thirteen bits, if it is one of a vertical mode
-vertical_begins : (number place : ℕ) (found : Option (CodeEntry ModeCode)) → place ≡ place_of modes 13 number
-    → slice_get modes place ≡ found → (0 < len_at found) ⊎ (shift_at found <ℤ pos 0)
+-- the code at an index begins thirteen bits, if it is one of a vertical mode
+vertical_begins : (number index : ℕ) (found : Option (CodeEntry ModeCode)) → index ≡ index_of modes 13 number
+    → slice_get modes index ≡ found → (0 < len_at found) ⊎ (shift_at found <ℤ pos 0)
     → HasCodeAhead modes (code_bits 13 number) (len_at found) (Vertical (shift_at found))
-vertical_begins number place found place_is is some = grind (arith, found_at_place)
+vertical_begins number index found index_is is some = grind (arith, found_at_index)
 
 -- a vertical mode that the arrays have begins thirteen bits
 pub vertical_is_ahead : (number : ℕ) → number < 2 ^ 13
@@ -117,13 +117,13 @@ vertical_is_ahead number within some =
     let at = number / 2 ^ 6 in
     let short : at < 128 = omega arith in
     let len : get_or VERTICAL_MODES.lens at 0 ≡ len_at (slice_get modes (get_or MODE_INDEXES at 0)) =
-    ap (λ xs. get_or xs at 0) lens_are ∙ get_or-map (λ place. len_at (slice_get modes place)) MODE_INDEXES at 0 0 short
+    ap (λ xs. get_or xs at 0) lens_are ∙ get_or-map (λ index. len_at (slice_get modes index)) MODE_INDEXES at 0 0 short
     in
     let shift : read_shift (get_or VERTICAL_MODES.shifts at (pos 0))
     ≡ shift_at (slice_get modes (get_or MODE_INDEXES at 0)) =
     sym (get_or-map read_shift VERTICAL_MODES.shifts at (pos 0) (pos 0) short)
     ∙ ap (λ xs. get_or xs at (pos 0)) shifts_are
-    ∙ get_or-map (λ place. shift_at (slice_get modes place)) MODE_INDEXES at 0 (pos 0) short in
+    ∙ get_or-map (λ index. shift_at (slice_get modes index)) MODE_INDEXES at 0 (pos 0) short in
     rw (len, shift)
-    (vertical_begins number (get_or MODE_INDEXES at 0) _ (mode_place number within) refl
+    (vertical_begins number (get_or MODE_INDEXES at 0) _ (mode_index number within) refl
     (rw (len, shift) at some))

@@ -26,9 +26,9 @@ spells-append table b middle rest [] others first second = subst (λ x. DecodesA
 spells-append table b middle rest (code ∷ codes) others first second =
     (first.0, first.1, spells-append table first.0 middle rest codes others first.2 second)
 
-spells_one : (colour : Colour) (place : ℕ) (code : RunCode) (more : List Bool) → place < 105 → run_meaning place ≡ code
+spells_one : (colour : Colour) (index : ℕ) (code : RunCode) (more : List Bool) → index < 105 → run_meaning index ≡ code
     → DecodesAll (run_table colour) (run_code_bits colour code ++ more) (code ∷ []) more
-spells_one colour place code more within is = grind (arith, takes_run_code)
+spells_one colour index code more within is = grind (arith, takes_run_code)
 
 spells_terminating : (colour : Colour) (n : ℕ) (more : List Bool) → n < 64
     → DecodesAll (run_table colour) (run_code_bits colour (Terminating n) ++ more) (Terminating n ∷ []) more

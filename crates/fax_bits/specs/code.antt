@@ -7,5 +7,5 @@ pub mod Window
 pub mod Pairs
 pub mod BitsAhead
 pub mod Codes
-pub mod CodePlaces
+pub mod CodeIndexes
 pub mod LookUp

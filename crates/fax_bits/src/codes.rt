@@ -51,7 +51,7 @@ pub trait CodeTable {
     /// The table of the standard.
     ghost table: { List (CodeEntry Self.Meaning) };
 
-    /// The entry at a place below `COUNT`.
+    /// The entry at an index below `COUNT`.
     fn entry(i: usize) -> CodeEntry<Self::Meaning>
         requires { i < COUNT }
         ensures found { slice_get table i ≡ Some result }

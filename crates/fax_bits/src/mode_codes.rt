@@ -72,9 +72,9 @@ impl CodeTable for Modes {
 
     fn find(window: u32, n: u32) -> Option<(u32, ModeCode)> {
         let bits = window << (LONGEST_CODE - n);
-        let place = usize::from(MODE_INDEXES[(bits >> 6) as usize]);
-        if place < MODE_ENTRIES {
-            within(Self::entry(place), n)
+        let index = usize::from(MODE_INDEXES[(bits >> 6) as usize]);
+        if index < MODE_ENTRIES {
+            within(Self::entry(index), n)
         } else {
             None
         }

@@ -5,7 +5,7 @@ ghost use Rattle.fax_bits.specs.views.Codes.{HasCodeAhead};
 ghost use Rattle.fax_bits.specs.Codes.{HasNoCode};
 ghost use Rattle.fax_bits.specs.Tables.{run_table};
 ghost use Rattle.fax_bits.specs.code.Codes.{run_meaning};
-ghost use Rattle.fax_bits.specs.code.CodePlaces.{place_of};
+ghost use Rattle.fax_bits.specs.code.CodeIndexes.{index_of};
 
 use crate::Colour;
 use crate::codes::{CodeEntry, CodeTable, LONGEST_CODE, within};
@@ -144,7 +144,7 @@ impl CodeTable for BlackRuns {
     ghost prefix_free = { Laws.run_table_is_prefix_free Black };
 }
 
-/// The entry at a place of the run table of a colour.
+/// The entry at an index of the run table of a colour.
 #[inline(always)]
 pub(crate) fn run_entry(colour: Colour, i: usize) -> CodeEntry<RunCode>
     requires { i < 105 }
@@ -168,20 +168,20 @@ fn find_run(colour: Colour, window: u32, n: u32) -> Option<(u32, RunCode)>
     ensures { MatchOption result (HasNoCode (run_table colour) (code_bits n window))
         (λ found. HasCodeAhead (run_table colour) (code_bits n window) found.0 found.1) }
 {
-    let place = run_index(colour, window << (LONGEST_CODE - n));
-    if place < RUN_ENTRIES {
-        within(run_entry(colour, place), n)
+    let index = run_index(colour, window << (LONGEST_CODE - n));
+    if index < RUN_ENTRIES {
+        within(run_entry(colour, index), n)
     } else {
         None
     }
 }
 
-/// The place of the code that begins thirteen bits in the run table of a colour, or the number of
+/// The index of the code that begins thirteen bits in the run table of a colour, or the number of
 /// codes where none does.
 #[inline(always)]
 fn run_index(colour: Colour, bits: u32) -> usize
     requires { bits < 2 ^ LONGEST_CODE }
-    ensures { result ≡ place_of (run_table colour) LONGEST_CODE bits }
+    ensures { result ≡ index_of (run_table colour) LONGEST_CODE bits }
 {
     let at = bits as usize;
     match colour {
@@ -208,18 +208,18 @@ pub(crate) fn find_run_code(colour: Colour, bits: u32) -> Option<(u32, RunCode)>
         Colour::White => WHITE_SHORT[at >> 4],
         Colour::Black => BLACK_SHORT[at >> 7],
     };
-    let mut place = usize::from(short);
-    if place >= EXTENSION {
-        place = run_index(colour, bits);
-        if place >= EXTENSION {
+    let mut index = usize::from(short);
+    if index >= EXTENSION {
+        index = run_index(colour, bits);
+        if index >= EXTENSION {
             return None;
         }
     }
-    let entry = run_entry(colour, place);
+    let entry = run_entry(colour, index);
     Some((u32::from(entry.len), entry.meaning))
 }
 
-/// What the code at a place of a run table means.
+/// What the code at an index of a run table means.
 fn meaning_at(i: u16) -> RunCode
     requires { i < 105 }
     ensures { result ≡ run_meaning i }

@@ -25,7 +25,8 @@ use Rattle.fax_walk.specs.Salvaged.{PageRow, SalvagedItem, row_found, page_items
 use Rattle.fax_walk.specs.Salvaged.{AreRowsFrom, IsRowOfStrip}
 use Rattle.fax_walk.specs.views.RowsFrom.{RowsFromView, AreLeftNow, EndsWithPage, IsNextFrom, IsPlaceNow}
 use Rattle.fax_walk.specs.views.RowsFrom.{IsInnerOf, IsNotStartedFrom, PassesOver, upcoming_row}
-use Rattle.fax_walk.specs.code.SalvagePage.{longer, rows_of, with_lost}
+use Rattle.fax_walk.specs.code.SalvagePage.{rows_of, with_lost}
+use Rattle.fax_walk.specs.views.LostRows.{longer}
 use Rattle.fax_walk.proofs.SalvagePageLemmas.{lost_on}
 use Rattle.fax_c.specs.declared.fill.Filled.{Filled}
 use Rattle.fax_c.specs.declared.fill.Stop.{Stop}
@@ -43,7 +44,7 @@ use Rattle.fax_c.specs.code.BareStrips.{IsRowBefore}
 use Rattle.fax_c.specs.Told.{none_filled_at}
 use Rattle.std.proofs.lemmas.List.{same_from_push}
 use Rattle.fax_c.specs.views.Places.{HasRuns, cursor_of, place_at}
-use Rattle.fax_c.specs.views.SalvagedFrom.{EndsFound, HasRoomForBoth, HasRoomFor, IsFull, StopsNoLater}
+use Rattle.fax_c.specs.views.SalvagedFrom.{EndsFound, HasRoomForBoth, HasRoomFor, IsFull, IsFullAfter}
 use Rattle.fax_c.specs.views.SalvagedFrom.{IsPlaceOn, LeftMemory, WritesFrom, WritesNone}
 use Rattle.fax_c.proofs.ListLemmas.{more_put, one_set}
 use Rattle.fax_c.proofs.StripLemmas.{upcoming_told}
@@ -156,19 +157,36 @@ module _ {first now new : RowsFromView} {page row upcoming : ℕ} {lost : Option
     ended = λ _. (rw append-nil so_far.none, all, alone);
   }
 
--- where the last of all rows is found, none at their end is lost
-none_later : (over later : List PageRow) → found_of later ≡ [] → EndsFound (over ++ later) → later ≡ []
-none_later [] later none (before, row, is) =
-    let some = rw (is, found_append) at none in
-    absurd (omega (arith, ap length some, length_push (found_of before) row))
-none_later (x ∷ []) later none ([], row, is) = cc
-none_later (x ∷ y ∷ over) later none ([], row, is) = cc
-none_later (x ∷ over) later none (y ∷ before, row, is) = none_later over later none (before, row, cc)
+-- rows that end with one that is found stand before others that are lost
+first_of_all : (over later first others : List PageRow) → found_of later ≡ [] → over ++ later ≡ first ++ others
+    → EndsFound first → (more : List PageRow) × (over ≡ first ++ more)
+first_of_all [] later first others none is (before, row, ends) =
+    let some : found_of (before ++ Ok row ∷ []) ++ found_of others ≡ [] = rw (is, found_append, ends) at none in
+    absurd (omega (
+      arith,
+      ap length some,
+      length-append (found_of (before ++ Ok row ∷ [])) (found_of others),
+      ap length (found_append before (Ok row ∷ [])),
+      length_push (found_of before) row,
+    ))
+first_of_all (x ∷ over) later [] others none is ([], row, ends) = cc
+first_of_all (x ∷ over) later [] others none is (y ∷ before, row, ends) = cc
+first_of_all (x ∷ over) later (y ∷ []) others none is ends =
+    let same : x ≡ y = cc is in (over, λ i. same i ∷ over)
+first_of_all (x ∷ over) later (y ∷ z ∷ first) others none is ([], row, ends) = cc
+first_of_all (x ∷ over) later (y ∷ z ∷ first) others none is (v ∷ before, row, ends) =
+    let (more, so) = first_of_all over later (z ∷ first) others none (cc is) (before, row, cc ends) in
+    let same : x ≡ y = cc is in (more, λ i. same i ∷ so i)
 
--- no stretch stands among no rows
-no_stretch : (lost : Option LostRows) → [] ≡ stretches_of lost ++ [] → lost ≡ None
-no_stretch None same = refl
-no_stretch (Some stretch) same = cc
+-- what stands before others among rows and one more stands among those rows, or is all
+all_but_last : (rows first others : List PageRow) (row : PageRow) → rows ++ row ∷ [] ≡ first ++ others → others ≢ []
+    → (more : List PageRow) × (rows ≡ first ++ more)
+all_but_last rows [] others row is some = (rows, refl)
+all_but_last [] (y ∷ []) others row is some = absurd (some (cc is))
+all_but_last [] (y ∷ z ∷ first) others row is some = cc
+all_but_last (x ∷ rows) (y ∷ first) others row is some =
+    let (more, so) = all_but_last rows first others row (cc is) some in
+    let same : x ≡ y = cc is in (more, λ i. same i ∷ so i)
 
 -- stretches are written after others, where one more has room
 stretches_put : (closed old now new : List FaxLost) (ahead : Option LostRows) (count to : ℕ)
@@ -201,8 +219,10 @@ module _ (first : RowsFromView) (page row stride : ℕ) (old : List ℕ) (old_lo
     pub put : lost ≡ closed ++ drop stretches old_lost
     pub fits : stretches ≤ length old_lost
     pub few : stretches + row ≤ upcoming
+    pub had_room : (one others : List PageRow) → over ≡ one ++ others → others ≢ []
+        → IsFullAfter page row stride (length old) (length old_lost) one → ⊥
     pub ends : ((used ≡ 0) × (stretches ≡ 0))
-        ⊎ (StopsNoLater over stretches (length old_lost) × (now.reader.before ≡ None) × EndsWithPage now)
+        ⊎ (EndsFound over × (now.reader.before ≡ None) × EndsWithPage now)
 
   pub nothing_written : upcoming_row first ≡ row → row ≤ first.here.form.rows
       → AreWrittenSoFar first row 0 0 0 old old_lost
@@ -222,12 +242,29 @@ module _ (first : RowsFromView) (page row stride : ℕ) (old : List ℕ) (old_lo
     put = refl;
     fits = omega arith;
     few = omega arith;
+    had_room = λ one others is some full. some (none_after one others is);
     ends = inl (refl, refl);
   }
+    where
+      none_after : (one others : List PageRow) → [] ≡ one ++ others → others ≡ []
+      none_after [] others is = sym is
+      none_after (x ∷ one) others is = cc
 
 module _ {first now : RowsFromView} {page row stride upcoming count used stretches : ℕ} {old out : List ℕ}
     {old_lost lost : List FaxLost}
     (so_far : AreWrittenSoFar first page row stride old old_lost now upcoming count used stretches out lost) where
+  lost_so_far : lost_from page row so_far.over ≡ so_far.closed
+  lost_so_far = simp append-nil at (so_far.stretches_are [])
+
+  -- where more has room now, it had room after all the rows before
+  never_full : HasRoomForBoth (length old) used stride stretches (length old_lost) → (one more : List PageRow)
+      → so_far.over ≡ one ++ more → IsFullAfter page row stride (length old) (length old_lost) one → ⊥
+  never_full room one [] is full =
+      let all : so_far.over ≡ one = is ∙ append-nil one in
+      let same = rw (← all, lost_so_far, ← so_far.count_is, ← so_far.used_is, ← so_far.stretches_is) at full.full in
+      omega (arith, same, room)
+  never_full room one (x ∷ more) is full = so_far.had_room one (x ∷ more) is (λ none. cc) full
+
   module _ {new : RowsFromView} {ahead : SkippedRows} (next : IsAhead now page upcoming ahead new)
       (len_lost : length lost ≡ length old_lost) (room : stretches < length old_lost) (to : ℕ)
       (new_lost : List FaxLost) (stretch : IsStretchPut ahead.lost lost stretches to new_lost) where
@@ -252,16 +289,13 @@ module _ {first now : RowsFromView} {page row stride upcoming count used stretch
     its_put = stretches_put so_far.closed old_lost lost new_lost ahead.lost stretches to so_far.put so_far.stretches_is
         len_lost room stretch
 
-    -- where no row is lost, no stretch is put
-    none_put : lost_from page upcoming (next.over ++ []) ≡ [] → to ≡ stretches
-    none_put none = (rw (no_stretch ahead.lost (sym none ∙ next.lost_are [] (λ _. refl))) at stretch).0
-
     -- a row that is found
-    pub one_more : ahead.found ≡ true → length new.last ≡ new.here.form.width
-        → packed_len first.here.form.width ≤ stride → length out ≡ length old → (end : ℕ) (new_out : List ℕ)
+    pub one_more : ahead.found ≡ true → HasRoomForBoth (length old) used stride stretches (length old_lost)
+        → length new.last ≡ new.here.form.width → packed_len first.here.form.width ≤ stride → length out ≡ length old
+        → (end : ℕ) (new_out : List ℕ)
         → IsPutAt (padded_row stride new.last) out used (Some end) new_out
         → AreWrittenSoFar first page row stride old old_lost new ahead.row (count + 1) end to new_out new_lost
-    one_more is width fits len_out end new_out (end_is, inside, new_is) =
+    one_more is has_room width fits len_out end new_out (end_is, inside, new_is) =
         let (alone, ends, none, with_page) = next.found is in
         let short : packed_len (length new.last) ≤ stride = rw (width, its_passes.same_here) fits in
         let front = flat_map (padded_row stride) (found_of so_far.over) in
@@ -285,25 +319,28 @@ module _ {first now : RowsFromView} {page row stride upcoming count used stretch
           put = its_put.0;
           fits = its_put.2;
           few = omega (arith, its_put.3, so_far.few, next.row_is, ends_some ends);
-          ends = inr (no_later alone ends, none, with_page);
+          had_room = λ one others is_all some full. had alone ends one others is_all some full;
+          ends = inr (all_end ends, none, with_page);
         }
       where
         ends_some : EndsFound next.over → 0 < length next.over
         ends_some (before, row, is) = rw (is, length_push) (omega arith)
 
-        -- a row after another that is found has no stretch before it
-        no_later : found_of next.over ≡ new.last ∷ [] → EndsFound next.over
-            → StopsNoLater its_over to (length old_lost)
-        no_later alone (before, row, is) = (
-          so_far.over ++ before,
-          row,
-          rw (is, append_assoc),
-          λ ends.
-              let all : found_of before ++ row ∷ [] ≡ new.last ∷ [] = rw (is, found_append) at alone in
-              let nothing = none_later so_far.over before (same_from_push (found_of before) [] row new.last all).0 ends
-              in
-              omega (arith, none_put (rw (is, nothing) refl), room),
-        )
+        all_end : EndsFound next.over → EndsFound its_over
+        all_end (before, pels, is) = (so_far.over ++ before, pels, rw (is, append_assoc) refl)
+
+        -- of the rows before the last one none but those of before end with one that is found
+        had : found_of next.over ≡ new.last ∷ [] → EndsFound next.over → (one others : List PageRow)
+            → its_over ≡ one ++ others → others ≢ []
+            → IsFullAfter page row stride (length old) (length old_lost) one → ⊥
+        had alone (before, pels, is) one others all some full =
+            let only : found_of before ++ pels ∷ [] ≡ new.last ∷ [] = rw (is, found_append) at alone in
+            let none = (same_from_push (found_of before) [] pels new.last only).0 in
+            let split : (so_far.over ++ before) ++ Ok pels ∷ [] ≡ one ++ others =
+            append_assoc so_far.over before (Ok pels ∷ []) ∙ ap (λ l. so_far.over ++ l) (sym is) ∙ all in
+            let (rest, so) = all_but_last (so_far.over ++ before) one others (Ok pels) split some in
+            let (more, within) = first_of_all so_far.over before one rest none so full.found in
+            never_full has_room one more within full
 
     -- no other row is left
     pub ended : ahead.found ≡ false → HasRoomForBoth (length old) used stride stretches (length old_lost)
@@ -333,22 +370,15 @@ module _ {first now : RowsFromView} {page row stride upcoming count used stretch
               cursor = ap (λ n. record { page = page; row = n }) upcoming_next;
               written = rw (found_are, ← so_far.used_is) so_far.written;
               lost_are = rw lost_are its_put.0;
-              stops = (alone rest remaining, λ ends. not_full (none_later so_far.over next.over none ends));
+              stops = (
+                alone rest remaining,
+                λ one others is_all full.
+                    let (more, within) = first_of_all so_far.over next.over one others none is_all full.found in
+                    never_full has_room one more within full,
+              );
             },
           );
         }
-      where
-        -- where all stretches had ended, one more had room
-        not_full : next.over ≡ [] → IsFull (length old) (count * stride) stride to (length old_lost) → ⊥
-        not_full nothing full =
-            omega (
-              arith,
-              full,
-              so_far.used_is,
-              has_room,
-              none_put (ap (λ l. lost_from page upcoming (l
-                  ++ [])) nothing),
-            )
 
   -- no more has room
   pub is_done : HasRoomForBoth (length old) 0 stride 0 (length old_lost)
@@ -359,7 +389,6 @@ module _ {first now : RowsFromView} {page row stride upcoming count used stretch
   is_done room full = elim so_far.ends [
     | inl none ↦ absurd (omega (arith, full, none, room))
     | inr (ends, none, with_page) ↦
-        let lost_are : lost_from page row so_far.over ≡ so_far.closed = simp append-nil at (so_far.stretches_are []) in
         record {
           same_file = so_far.passes.same_file;
           same_here = so_far.passes.same_here;
@@ -374,11 +403,17 @@ module _ {first now : RowsFromView} {page row stride upcoming count used stretch
               over = so_far.over;
               split = refl;
               count = so_far.count_is;
-              used = rw lost_are so_far.stretches_is;
+              used = rw lost_so_far so_far.stretches_is;
               cursor = ap (λ n. record { page = page; row = n }) so_far.upcoming_is;
               written = rw (← so_far.used_is) so_far.written;
-              lost_are = rw lost_are so_far.put;
-              stops = (ends, rw (← so_far.used_is) full);
+              lost_are = rw lost_so_far so_far.put;
+              stops = (
+                record {
+                  found = ends;
+                  full = rw (lost_so_far, ← so_far.count_is, ← so_far.used_is, ← so_far.stretches_is) full;
+                },
+                so_far.had_room,
+              );
             },
           );
         }

@@ -17,7 +17,8 @@ use Rattle.fax_walk.specs.Salvaged.{PageRow, page_items}
 use Rattle.fax_walk.specs.laws.SalvagedRows.{AreLeftOneWay}
 use Rattle.fax_walk.specs.views.SalvagedRows.{of_uncounted, AreLeftOf, RowsView, IsNextPart, IsUncountedStart}
 use Rattle.fax_walk.specs.views.SalvagedRows.{PassesRows}
-use Rattle.fax_walk.specs.code.SalvagePage.{longer, rows_of, with_lost}
+use Rattle.fax_walk.specs.code.SalvagePage.{rows_of, with_lost}
+use Rattle.fax_walk.specs.views.LostRows.{longer}
 use Rattle.fax_walk.proofs.SalvagePageLemmas.{lost_on}
 use Rattle.fax_c.specs.declared.fill.Filled.{Filled}
 use Rattle.fax_c.specs.declared.fill.Stop.{Stop}

@@ -1,5 +1,6 @@
 -- What a check says of a file. A definition without a citation is this project's profile.
-use Rattle.std.specs.Prelude.{◌≡◌, ℕ, ◌⊎◌, List, ◌++◌, length, map, take, drop, unwrap_or, Option}
+use Rattle.std.specs.Prelude.{◌≡◌, ℕ, ◌⊎◌, false, List, ◌++◌, length, map, take, drop, unwrap_or}
+use Rattle.std.specs.Prelude.{Option}
 use Rattle.std.specs.Prelude.{Some, None}
 use Rattle.fax_files.specs.declared.Cause.{Cause}
 use Rattle.fax_walk.specs.declared.checking.Note.{Note}
@@ -46,6 +47,6 @@ report_status (Some fault) = 2
 -- a file's report is written, or memory was refused, and nothing is changed
 abbrev pub TellsReport : List ℕ → List FaxNote → List FaxNote → FaxReport → FaxReport → ℕ → Type 0
 TellsReport file old_notes notes old report status =
-    ((found : Report) × IsReport file found × AreNotesPut found.notes.items old_notes notes
+    ((found : Report) × IsReport false file found × AreNotesPut found.notes.items old_notes notes
     × (report ≡ report_of found) × (status ≡ report_status found.fault))
     ⊎ ((status ≡ 4) × (notes ≡ old_notes) × (report ≡ old))

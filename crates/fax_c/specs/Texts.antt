@@ -54,7 +54,7 @@ NamesNote number old len new =
 
 -- the version, and its number
 abbrev pub version : List ℕ
-version = codes "1.13.0"
+version = codes "1.14.0"
 
 abbrev pub version_number : ℕ
-version_number = 11300
+version_number = 11400

@@ -10,6 +10,7 @@ ghost use Rattle.fax_c.specs.FaultNumbers.{fault_number, pbm_fault_number};
 ghost use Rattle.fax_c.specs.Texts as Spec;
 
 use crate::caller_text::put_text;
+use crate::received::none_received;
 use fax_files::{Cause, FileFault, PbmFault, StripFault};
 use fax_walk::NoteKind;
 
@@ -140,7 +141,7 @@ pub extern "C" fn faxpages_status_name(number: u32, name: &mut [u8]) -> usize
     put_text(status_name(number).as_bytes(), name)
 }
 
-/// The kind of notes with this number, if one has it.
+/// The kind of notes with this number, if one has it. Its name does not go by what it counts.
 fn note_kind(number: u32) -> Option<NoteKind>
     ensures { MatchOption result ((kind : TheNoteKind) → (number_and_name kind).0 ≢ number)
         (λ kind. (number_and_name kind).0 ≡ number) }
@@ -151,6 +152,7 @@ fn note_kind(number: u32) -> Option<NoteKind>
         3 => Some(NoteKind::DataAfterEnd),
         4 => Some(NoteKind::NotT4Choice),
         5 => Some(NoteKind::EntriesOutOfOrder),
+        6 => Some(NoteKind::BadFaxLines(none_received())),
         _ => None,
     }
 }

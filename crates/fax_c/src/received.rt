@@ -45,7 +45,7 @@ impl FaxReceived {
 }
 
 /// A page that says none of the numbers.
-fn none_received() -> Received
+pub(crate) fn none_received() -> Received
     ensures { result ≡ Spec.none_received }
 {
     Received {

@@ -9,7 +9,7 @@ use crate::fill::{Filled, Stop};
 use crate::format::put_all_runs;
 use crate::places::{FaxPlace, MOST_RUNS};
 use crate::raster::{packed_len, put_in_stride};
-use crate::salvaged_raster::{FaxLost, longer, put_stretch};
+use crate::salvaged_raster::{FaxLost, put_stretch};
 use crate::status;
 use crate::strip_rows::{MOST_BYTES, row_before};
 use crate::told::FaxTold;
@@ -48,7 +48,7 @@ fn next_found(remaining: &mut RowsFrom, page: u32, row: u32) -> SkippedRows
                 };
             }
             SalvagedPart::Lost { rows, cause } => {
-                lost = Some(longer(lost, page, upcoming, rows, cause));
+                lost = Some(LostRows::longer(lost, page, upcoming, rows, cause));
                 upcoming += rows;
             }
         }

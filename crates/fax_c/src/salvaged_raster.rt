@@ -50,32 +50,6 @@ impl FaxLost {
     }
 }
 
-/// The stretch that ends before a row of a page, with so many rows more, which are lost for this
-/// cause.
-pub(crate) fn longer(
-    lost: Option<LostRows>,
-    page: u32,
-    row: u32,
-    rows: u32,
-    cause: Cause,
-) -> LostRows
-    requires { Walk.HasRoom lost rows }
-    ensures { result ≡ Walk.longer lost page row rows cause }
-{
-    match lost {
-        Some(stretch) => LostRows {
-            rows: stretch.rows + rows,
-            ..stretch
-        },
-        None => LostRows {
-            page,
-            row,
-            rows,
-            cause,
-        },
-    }
-}
-
 /// Writes a stretch that has ended, if one has, after so many others, where it has room, and
 /// returns how many there are now.
 pub(crate) fn put_stretch(ended: Option<LostRows>, lost: &mut [FaxLost], count: usize) -> usize
@@ -157,7 +131,7 @@ fn fill_left(
             }
             SalvagedPart::Lost { rows, cause } => {
                 at = put_lost(rows, stride, out, at);
-                ended = Some(longer(ended, page, row, rows, cause));
+                ended = Some(LostRows::longer(ended, page, row, rows, cause));
                 row += rows;
             }
         }

@@ -13,8 +13,7 @@ ghost use Rattle.fax_page.specs.laws.Uncounted as Uncounted;
 ghost use Rattle.fax_page.specs.laws.Writer.{WritesRowByRow};
 
 /// The rows of a strip, from any row on, line by line, are what a function reads of its bits, in
-/// any
-/// coding.
+/// any coding.
 pub fn lines_are_read_by_a_function()
     ensures { LinesAreReadByAFunction }
 {}

@@ -39,12 +39,12 @@ use Rattle.fax_reads.proofs.FileGraph.{on_page, rows_are}
 abbrev Next : Type 0
 Next = ℕ × Option ℕ
 
-module _ (file : List ℕ) where
-  noted_is : (at : Next) → IsNoted file at (read_noted file at)
+module _ (with_received : Bool) (file : List ℕ) where
+  noted_is : (at : Next) → IsNoted with_received file at (read_noted with_received file at)
   noted_is (p, strip) =
       on_page (read_page file (record { page = p; row = 0 }))
-      (λ here (step : NextItem (List Note) Next). step ≡ noted_on file p strip here) ends_as
-      (λ found. elim found [ Err end ↦ ends_as end | Ok here ↦ noted_on file p strip here ])
+      (λ here (step : NextItem (List Note) Next). step ≡ noted_on with_received file p strip here) ends_as
+      (λ found. elim found [ Err end ↦ ends_as end | Ok here ↦ noted_on with_received file p strip here ])
       (λ end. refl) (λ here. refl)
 
 -- a strip with notes has all its rows, and one with none has a fault after so many
@@ -105,7 +105,7 @@ some_strips form whole = by_count form.strips whole.enough
     by_count zero enough = absurd (omega (arith, enough, whole.some_rows))
     by_count (suc n) enough = omega arith
 
-module _ (chains : FilesHaveOneChain) (forms : FormsAreWhole) (file : List ℕ) where
+module _ (chains : FilesHaveOneChain) (forms : FormsAreWhole) (with_received : Bool) (file : List ℕ) where
   abbrev Falls : Next → Next → Type 0
   Falls at to = IsUpcoming file to × (measure file to < measure file at)
 
@@ -133,7 +133,8 @@ module _ (chains : FilesHaveOneChain) (forms : FormsAreWhole) (file : List ℕ) 
           let to_is : to ≡ (if s + 1 == here.form.strips then (p + 1, None) else (p, Some (s + 1))) = cc (is) in
           subst (Falls (p, Some s)) (sym to_is) (after_strip p s here page upcoming (s + 1 == here.form.strips) refl)
 
-  falls : (at : Next) (item : List Note) (to : Next) → IsUpcoming file at → IsNoted file at (goes_on item to)
+  falls : (at : Next) (item : List Note) (to : Next) → IsUpcoming file at
+      → IsNoted with_received file at (goes_on item to)
       → Falls at to
   falls (p, None) item to upcoming is = by_page file (record { page = p; row = 0 }) is (λ here page is.
       let to_is : to ≡ (p, Some 0) = cc (is) in
@@ -143,25 +144,28 @@ module _ (chains : FilesHaveOneChain) (forms : FormsAreWhole) (file : List ℕ) 
   falls (p, Some s) item to (here, page, upcoming) is =
       in_file p s here page upcoming (strip_bytes here.endian file here.offset s) item to (rw page at is)
 
-  module _ (is : (at : Next) → IsNoted file at (read_noted file at)) where
-    by_step : (limit : ℕ) (at : Next) (step : NextItem (List Note) Next) → IsNoted file at step
-        → ((item : List Note) (to : Next) → IsNoted file at (goes_on item to)
-        → AreFrom (IsNoted file) to (read_all limit (read_noted file) to).items
-        (read_all limit (read_noted file) to).end)
-        → AreFrom (IsNoted file) at (all_after (read_all limit (read_noted file)) step).items
-        (all_after (read_all limit (read_noted file)) step).end
+  module _ (is : (at : Next) → IsNoted with_received file at (read_noted with_received file at)) where
+    by_step : (limit : ℕ) (at : Next) (step : NextItem (List Note) Next) → IsNoted with_received file at step
+        → ((item : List Note) (to : Next) → IsNoted with_received file at (goes_on item to)
+        → AreFrom (IsNoted with_received file) to (read_all limit (read_noted with_received file) to).items
+        (read_all limit (read_noted with_received file) to).end)
+        → AreFrom (IsNoted with_received file) at (all_after (read_all limit (read_noted with_received file))
+        step).items
+        (all_after (read_all limit (read_noted with_received file)) step).end
     by_step limit at (ends_as end) here more = here
     by_step limit at (goes_on item to) here more = (to, here, more item to here)
 
     all_noted : (limit : ℕ) (at : Next) → IsUpcoming file at → measure file at < limit
-        → AreFrom (IsNoted file) at (read_all limit (read_noted file) at).items
-        (read_all limit (read_noted file) at).end
+        → AreFrom (IsNoted with_received file) at (read_all limit (read_noted with_received file) at).items
+        (read_all limit (read_noted with_received file) at).end
     all_noted zero at upcoming few = absurd (omega (arith, few))
     all_noted (suc limit) at upcoming few =
-        by_step limit at (read_noted file at) (is at) (λ item to here. let less = falls at item to upcoming here in
+        by_step limit at (read_noted with_received file at) (is at) (λ item to here. let less = falls at item to
+        upcoming here in
         all_noted limit to less.0 (omega (arith, few, less.1)))
 
-    pub all_are : AreFrom (IsNoted file) (0, None) (read_notes file).items (read_notes file).end
+    pub all_are : AreFrom (IsNoted with_received file) (0, None) (read_notes with_received file).items (read_notes
+        with_received file).end
     all_are = all_noted ((length file + 1) * (most_rows + 2)) (0, None) tt (omega arith)
 
 -- the rows of a file from where notes are expected on end as the notes do
@@ -172,7 +176,7 @@ RowsFrom file (p, Some s) end =
     → (items : List RowItem) × AreFrom (IsRow file) (first_at p (s * here.form.rows_per_strip)) items end
 
 module _ (by_place : AreBitsByIndex) (lines_read : LinesAreRead) (chains : FilesHaveOneChain) (forms : FormsAreWhole)
-    (file : List ℕ) where
+    (with_received : Bool) (file : List ℕ) where
   module _ (p s : ℕ) (here : FilePage) (page : read_page file (record { page = p; row = 0 }) ≡ Ok here)
       (upcoming : s < here.form.strips) where
     abbrev n : ℕ
@@ -257,7 +261,7 @@ module _ (by_place : AreBitsByIndex) (lines_read : LinesAreRead) (chains : Files
               joined (IsRow file) first read.to read.items later.0 end read.lead (rw read.there later.1),
             )
 
-  agree : (at : Next) (notes : List (List Note)) (end : End) → AreFrom (IsNoted file) at notes end
+  agree : (at : Next) (notes : List (List Note)) (end : End) → AreFrom (IsNoted with_received file) at notes end
       → RowsFrom file at end
   agree (p, None) [] end is = by_page file (record { page = p; row = 0 }) is (λ here page is. absurd (cc (is)))
       (λ e page is. ([], rw page (cc (is))))
@@ -285,40 +289,43 @@ in_strip_proper form p s (Some bytes) is = by (noted (strip_form form s) (bits f
     by (Ok notes) is = absurd (cc (is))
     by (Err (rows, fault)) is = absurd (cc (is))
 
-proper_at : (file : List ℕ) (at : Next) (notes : List (List Note)) → AreFrom (IsNoted file) at notes EndOfPages
+proper_at : (with_received : Bool) (file : List ℕ) (at : Next) (notes : List (List Note))
+    → AreFrom (IsNoted with_received file) at notes EndOfPages
     → (p : ℕ) × (read_page file (record { page = p; row = 0 }) ≡ Err EndOfPages)
-proper_at file (p, None) [] is = by_page file (record { page = p; row = 0 }) is (λ here page is. absurd (cc (is)))
+proper_at with_received file (p, None) [] is = by_page file (record { page = p; row = 0 }) is (λ here page is. absurd
+    (cc (is)))
     (λ e page is. let same : EndOfPages ≡ e = cc (is) in (p, rw same page))
-proper_at file (p, Some s) [] is = by_page file (record { page = p; row = 0 }) is (λ here page is.
+proper_at with_received file (p, Some s) [] is = by_page file (record { page = p; row = 0 }) is (λ here page is.
     absurd (in_strip_proper here.form p s (strip_bytes here.endian file here.offset s) is))
     (λ e page is. let same : EndOfPages ≡ e = cc (is) in (p, rw same page))
-proper_at file at (note ∷ notes) (to, step, rest) = proper_at file to notes rest
+proper_at with_received file at (note ∷ notes) (to, step, rest) = proper_at with_received file to notes rest
 
 count_is : (file : List ℕ) (p : ℕ) → read_page file (record { page = p; row = 0 }) ≡ Err EndOfPages
     → p ≡ pages_to file EndOfPages
 count_is file p at = let (head, is_head, none, count) = proper_after file p at in rw (is_head, pages_to) count
 
-pub end_is : (file : List ℕ) (items : List RowItem) (notes : List (List Note)) (end : End)
-    → AreItems file items end → AreFrom (IsNoted file) (0, None) notes end
+pub end_is : (with_received : Bool) (file : List ℕ) (items : List RowItem) (notes : List (List Note)) (end : End)
+    → AreItems file items end → AreFrom (IsNoted with_received file) (0, None) notes end
     → IsReportedEnd file end (pages_to file end) (fault_and_place end)
-end_is file items notes EndOfPages are noted =
-    let at = proper_at file (0, None) notes noted in
+end_is with_received file items notes EndOfPages are noted =
+    let at = proper_at with_received file (0, None) notes noted in
     (subst (λ p. read_page file (record { page = p; row = 0 }) ≡ Err EndOfPages) (count_is file at.0 at.1) at.1, refl)
-end_is file items notes (Fault p r cause) are noted = (refl, refl)
-end_is file items notes Outside are noted = absurd (never_outside file items are)
+end_is with_received file items notes (Fault p r cause) are noted = (refl, refl)
+end_is with_received file items notes Outside are noted = absurd (never_outside file items are)
 
 module _ (by_place : AreBitsByIndex) (lines_read : LinesAreRead) (chains : FilesHaveOneChain)
     (forms : FormsAreWhole) where
-  report_is : (file : List ℕ) (report : Report) → read_report file ≡ parts_of report → IsReport file report
-  report_is file report e =
+  report_is : (with_received : Bool) (file : List ℕ) (report : Report) → read_report with_received file
+      ≡ parts_of report → IsReport with_received file report
+  report_is with_received file report e =
       let all = read_rows file in
-      let notes = read_notes file in
+      let notes = read_notes with_received file in
       let are = rows_are by_place lines_read chains forms file (first_at 0 0) in
-      let noted = all_are chains forms file (noted_is file) in
-      let found = agree by_place lines_read chains forms file (0, None) notes.items notes.end noted in
+      let noted = all_are chains forms with_received file (noted_is with_received file) in
+      let found = agree by_place lines_read chains forms with_received file (0, None) notes.items notes.end noted in
       let same = two_of (files_have_one_items by_place lines_read chains forms file) all.items found.0 all.end notes.end
       are found.1 in
-      let noted_so = subst (AreFrom (IsNoted file) (0, None) notes.items) (sym same.1) noted in
+      let noted_so = subst (AreFrom (IsNoted with_received file) (0, None) notes.items) (sym same.1) noted in
       let pages : pages_to file all.end ≡ report.pages = ap (λ (r : ReportRead). r.pages) e in
       let fault : fault_and_place all.end ≡ report.fault = ap (λ (r : ReportRead). r.fault) e in
       record {
@@ -328,17 +335,17 @@ module _ (by_place : AreBitsByIndex) (lines_read : LinesAreRead) (chains : Files
         rows_are = sym (ap (λ (r : ReportRead). r.rows) e);
         end_is = subst (λ f. IsReportedEnd file all.end report.pages f) fault
             (subst (λ n. IsReportedEnd file all.end n (fault_and_place all.end)) pages
-            (end_is file all.items notes.items all.end are noted_so));
+            (end_is with_received file all.items notes.items all.end are noted_so));
         notes = notes.items;
         noted = noted_so;
         notes_are = sym (ap (λ (r : ReportRead). r.notes) e);
       }
 
   -- and what is defined is reported
-  single_noted : (file : List ℕ) (at : Next) → IsSingle (IsNoted file at)
-  single_noted file (p, strip) =
+  single_noted : (with_received : Bool) (file : List ℕ) (at : Next) → IsSingle (IsNoted with_received file at)
+  single_noted with_received file (p, strip) =
       single_on_page (read_page file (record { page = p; row = 0 }))
-      (λ here (step : NextItem (List Note) Next). step ≡ noted_on file p strip here) ends_as
+      (λ here (step : NextItem (List Note) Next). step ≡ noted_on with_received file p strip here) ends_as
       (λ here x y first second. first ∙ sym second)
 
   end_of : (file : List ℕ) (end : End) (pages : ℕ) (fault : Option (Place × Cause))
@@ -347,14 +354,16 @@ module _ (by_place : AreBitsByIndex) (lines_read : LinesAreRead) (chains : Files
   end_of file (Fault p r cause) pages fault is = (sym is.0, sym is.1)
   end_of file Outside pages fault is = absurd is
 
-  report_of : (file : List ℕ) (report : Report) → IsReport file report → read_report file ≡ parts_of report
-  report_of file report is =
+  report_of : (with_received : Bool) (file : List ℕ) (report : Report) → IsReport with_received file report
+      → read_report with_received file ≡ parts_of report
+  report_of with_received file report is =
       let all = read_rows file in
-      let notes = read_notes file in
+      let notes = read_notes with_received file in
       let rows = two_of (files_have_one_items by_place lines_read chains forms file) all.items is.items all.end is.end
       (rows_are by_place lines_read chains forms file (first_at 0 0)) is.read in
-      let noted = single_from (IsNoted file) (single_noted file) (0, None) notes.items is.notes notes.end is.end
-      (all_are chains forms file (noted_is file)) is.noted in
+      let noted = single_from (IsNoted with_received file) (single_noted with_received file) (0, None) notes.items
+      is.notes notes.end is.end
+      (all_are chains forms with_received file (noted_is with_received file)) is.noted in
       let ends = end_of file is.end report.pages report.fault is.end_is in
       parts (ap (flat_map (λ (own : List Note). own)) noted.0 ∙ sym is.notes_are)
       (ap (pages_to file) rows.1 ∙ ends.0)
@@ -366,4 +375,5 @@ module _ (by_place : AreBitsByIndex) (lines_read : LinesAreRead) (chains : Files
       parts first second third fourth = cc (first, second, third, fourth)
 
   pub reports_graph : ReportsAreReadByAFunction
-  reports_graph file report = (report_of file report, report_is file report)
+  reports_graph with_received file report =
+      (report_of with_received file report, report_is with_received file report)

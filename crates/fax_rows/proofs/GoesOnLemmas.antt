@@ -94,11 +94,11 @@ pub goes_on_leaves : {reference : List Colour} {old : Position} {b : List Bool} 
     → ReachesBySteps reference old b new rest → Leaves b rest
 goes_on_leaves goes = (goes.front, goes.parts)
 
-pub due_leaves : (colour : Colour) (b : List Bool) (needed : NeedsTable) (rest : List Bool)
+pub needed_leaves : (colour : Colour) (b : List Bool) (needed : NeedsTable) (rest : List Bool)
     → IsNeeded colour b needed rest
     → Leaves b rest
-due_leaves colour b Mode rest is = ([], is)
-due_leaves colour b (Runs first) rest is = leaves_more (code_leaves is.1) (runs is.0 first is.2)
+needed_leaves colour b Mode rest is = ([], is)
+needed_leaves colour b (Runs first) rest is = leaves_more (code_leaves is.1) (runs is.0 first is.2)
   where
     runs : (middle : List Bool) (first : Option ℕ) → AreRunsNeeded colour middle first rest → Leaves middle rest
     runs middle None is = ([], is)

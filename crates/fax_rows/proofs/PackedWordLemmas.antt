@@ -49,9 +49,9 @@ module _ (row : ChangingElements) where
   abbrev pels : List Bool
   pels = map is_black (element_pels row)
 
-  pub word_begun : (from word k : ℕ) → HasPassed row.changes.now row.end from k
+  pub word_started : (from word k : ℕ) → HasPassed row.changes.now row.end from k
       → ((i : ℕ) → word_bit word i ≡ is_black (alternate Black k)) → IsWordTo row from word k
-  word_begun from word k passed is = grind arith
+  word_started from word k passed is = grind arith
 
   -- the pels up to the next place
   pub pel_of_word : {from word k : ℕ} → IsWordTo row from word k → (i : ℕ) → i < 64 → from + i < row.width

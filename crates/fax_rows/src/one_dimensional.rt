@@ -29,8 +29,8 @@ struct RunsSoFar {
 impl RunsSoFar {
     ghost use Rattle.std.specs.Prelude.{◌<◌, ◌≡◌, ◌⊎◌, IsTrue};
 
-    /// Sees that a run after them may be one of the longest: it has pels, or is the first of its
-    /// row. Else the codes are not those that T.4 chooses (T.4, section 4.1.1).
+    /// Notes whether T.4 itself codes such a run next: it has pels, or it is the first of its row.
+    /// Otherwise the codes are not those that T.4 chooses (T.4, section 4.1.1).
     #[inline(always)]
     fn see(&mut self, colour: Colour, run: u32)
         ensures chosen { IsTrue self.new.is_canonical → IsTrue self.old.is_canonical

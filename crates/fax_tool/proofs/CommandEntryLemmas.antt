@@ -145,6 +145,7 @@ have_entries = All-from_recursion HasItsEntries commands (
     list = λ is. number_entry (items_at 0) (codes "max") most_lines refl refl uses words are;
     rows = λ is. cc;
     convert = λ is. cc;
+    check = λ is. cc;
     known = refl;
   }),
   (
@@ -155,6 +156,7 @@ have_entries = All-from_recursion HasItsEntries commands (
         flag_entry (items_at 1) (codes "long") refl refl uses words are,
       );
       convert = λ is. cc;
+      check = λ is. cc;
       known = refl;
     }),
     (
@@ -167,11 +169,27 @@ have_entries = All-from_recursion HasItsEntries commands (
           strip = number_entry (items_at 2) (codes "strip") most_rows refl refl uses words are;
           align = flag_entry (items_at 2) (codes "align") refl refl uses words are;
         };
+        check = λ is. cc;
         known = refl;
       }),
       (
-        (λ uses words are. record { list = λ is. cc; rows = λ is. cc; convert = λ is. cc; known = refl }),
-        ((λ uses words are. record { list = λ is. cc; rows = λ is. cc; convert = λ is. cc; known = refl }), tt),
+        (λ uses words are. record {
+          list = λ is. cc;
+          rows = λ is. cc;
+          convert = λ is. cc;
+          check = λ is. flag_entry (items_at 3) (codes "received") refl refl uses words are;
+          known = refl;
+        }),
+        (
+          (λ uses words are. record {
+            list = λ is. cc;
+            rows = λ is. cc;
+            convert = λ is. cc;
+            check = λ is. cc;
+            known = refl;
+          }),
+          tt,
+        ),
       ),
     ),
   ),

@@ -82,11 +82,12 @@ rows_unread tails part refusal bytes taken counts output stops =
     )) stops
 
 -- the part's beginning was refused
-pub rows_unbegun : BeginningsHaveOneTail → (part : Selection) (refusal : Refusal) (bytes : Option (List ℕ)) (taken : ℕ)
+pub rows_not_started : BeginningsHaveOneTail → (part : Selection) (refusal : Refusal) (bytes : Option (List ℕ)) (taken :
+    ℕ)
     (counts : Counts) (output : Output) → IsRead (input_after bytes taken counts)
     → StopsWith (next_line (AtCursor (start_cursor (origin_of part)))) refusal output
     → IsStopped (Rows part) refusal (input_after bytes taken counts) output
-rows_unbegun tails part refusal bytes taken counts output read stops =
+rows_not_started tails part refusal bytes taken counts output read stops =
     rows_unread tails part refusal bytes taken counts output
     (unread_for_memory (next_line (AtCursor (start_cursor (origin_of part)))) refusal (input_after bytes taken counts)
     output

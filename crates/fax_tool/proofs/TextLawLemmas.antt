@@ -31,10 +31,10 @@ one_conversion ways options file printed other (inr (fault, first, is)) (inl (ou
 one_conversion ways options file printed other (inr (fault, first, is)) (inr (fault', second, is')) =
     rw (is, is', (ways file options).one_fault fault fault' first second)
 
-one_report : FilesHaveOneReport → (file : List ℕ) (printed other : Printed) → IsCheckText file printed
-    → IsCheckText file other → printed ≡ other
-one_report reports file printed other (report, first, is) (report', second, is') =
-    let same = reports file report report' first second in
+one_report : FilesHaveOneReport → (received : Bool) (file : List ℕ) (printed other : Printed)
+    → IsCheckText received file printed → IsCheckText received file other → printed ≡ other
+one_report reports received file printed other (report, first, is) (report', second, is') =
+    let same = reports received file report report' first second in
     rw (is, is', same.notes, same.pages, same.rows, same.fault)
 
 one_salvage : ((file : List ℕ) → IsSalvagedOneWay file) → FilesHaveOneItems → (file : List ℕ) (printed other : Printed)
@@ -58,8 +58,8 @@ texts_are_one tails forms ways reports salvages files (Rows part) file printed o
     (origin_of part) printed other first second
 texts_are_one tails forms ways reports salvages files (Convert options) file printed other first second =
     one_conversion ways options file printed other first second
-texts_are_one tails forms ways reports salvages files Check file printed other first second =
-    one_report reports file printed other first second
+texts_are_one tails forms ways reports salvages files (Check received) file printed other first second =
+    one_report reports received file printed other first second
 texts_are_one tails forms ways reports salvages files Salvage file printed other first second =
     one_salvage salvages files file printed other first second
 texts_are_one tails forms ways reports salvages files Version file printed other first second = first ∙ sym second

@@ -1,6 +1,6 @@
 -- What the commands that write a whole text leave on the output.
 use Rattle.std.proofs.Common.{arith, ◌≡◌, ◌≢◌, ℕ, List, [], inl, inr, refl, sym}
-use Rattle.std.specs.Prelude.{Option, Some, None, IfSome}
+use Rattle.std.specs.Prelude.{Bool, Option, Some, None, IfSome}
 use Rattle.std.specs.Io.KnownBytes.{Appends}
 use Rattle.std.proofs.KnownBytes.{Appends-nil}
 use Rattle.fax_walk.specs.Converted.{IsConverted, IsNotConverted}
@@ -53,20 +53,25 @@ module _ (bytes : Option (List ℕ)) (file : List ℕ) (same : IfSome bytes (λ 
       (inr (fault, refused is.0, refl)) (Appends-nil old) worked (sym is.1) refl
 
 module _ (bytes : Option (List ℕ)) (file : List ℕ) (same : IfSome bytes (λ b. file ≡ b)) (taken : ℕ) (counts : Counts)
-    (read : IsRead (input_after bytes taken counts)) (old new : Option (List ℕ)) (given : Counts) (report : Report)
-    (is : IsReport file report) (text : List ℕ) (text_is : text ≡ report_output report) where
+    (read : IsRead (input_after bytes taken counts)) (old new : Option (List ℕ)) (given : Counts) (received : Bool)
+    (report : Report) (is : IsReport received file report) (text : List ℕ) (text_is : text ≡ report_output report) where
   pub check_stopped : (refusal : Refusal) → IsGivenInPart old new text given refusal
-      → IsStopped Check refusal (input_after bytes taken counts) (output_after old new given)
+      → IsStopped (Check received) refusal (input_after bytes taken counts) (output_after old new given)
   check_stopped refusal part =
-      text_stopped Check bytes taken counts file old new given (report_text report) refusal same read (report, is, refl)
+      text_stopped (Check received) bytes taken counts file old new given (report_text report) refusal same read
+      (report, is, refl)
       (rw text_is at part)
 
   pub checked : (line : Option (List ℕ)) → Appends old new text → HasWorked given
       → (report_text report).error ≡ error_of line
       → (report_text report).status ≡ status_of line
-      → IsDone Check (input_after bytes taken counts) (output_after old new given) line
+      → IsDone (Check received) (input_after bytes taken counts) (output_after old new given) line
   checked line moved worked error status =
-      text_done Check bytes taken counts file old new given (report_text report) line same read (report, is, refl)
+      text_done (Check received) bytes taken counts file old new given (report_text report) line same read (
+        report,
+        is,
+        refl,
+      )
       (rw text_is at moved)
       worked error status
 

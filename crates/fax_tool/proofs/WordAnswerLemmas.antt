@@ -141,7 +141,8 @@ one_command names name given (Rows part) (Rows other) in_range in_range' first s
     (one_part names given (is_set (codes "long") given) part other in_range in_range' first.1 second.1)
 one_command names name given (Convert options) (Convert other) in_range in_range' first second =
     ap (λ (o : Options). Convert o) (one_options given options other first.1 second.1)
-one_command names name given Check Check in_range in_range' first second = refl
+one_command names name given (Check received) (Check other) in_range in_range' first second =
+    ap (λ (flag : Bool). Check flag) (first.1 ∙ sym second.1)
 one_command names name given Salvage Salvage in_range in_range' first second = refl
 one_command names name given command other in_range in_range' first second = grind arith
 

@@ -82,6 +82,7 @@ are_not_taken = record {
   k = nothing (codes "convert -omr --k=1000001") refl;
   order = nothing (codes "convert -omr --order=3") refl;
   long = nothing (codes "list --long") refl;
+  received = nothing (codes "rows --received") refl;
   flag_value = nothing (codes "rows --long=true") refl;
   no_target = gives _ _ _ refl refl;
 }

@@ -122,6 +122,7 @@ pub record Agrees (entries : List Row) (uses : List Use) : Type 0 where
   pub name : first_of (codes "FILE") entries ≡ text_in uses (codes "FILE")
   pub long : is_true (first_of (codes "long") entries) ≡ is_true (text_in uses (codes "long"))
   pub align : is_true (first_of (codes "align") entries) ≡ is_true (text_in uses (codes "align"))
+  pub received : is_true (first_of (codes "received") entries) ≡ is_true (text_in uses (codes "received"))
 
 abbrev AreAgreeing : Text × List Item → Type 0
 AreAgreeing command = (uses : List Use) → Agrees (filled_rows command.1 uses) uses
@@ -225,8 +226,8 @@ own_commands = All-from_recursion IsOwn commands (
       )
           (λ uses lacking. (refl, lacks_target uses lacking)),
       (
-        own_of (codes "check") (items_at 3) refl refl refl refl (0, lit< tt, refl) ((refl, tt, tt), tt)
-            (λ uses lacking. cc),
+        own_of (codes "check") (items_at 3) refl refl refl refl (0, lit< tt, refl)
+            ((refl, tt, tt), ((refl, refl, tt), tt)) (λ uses lacking. cc),
         (
           own_of (codes "salvage") (items_at 4) refl refl refl refl (0, lit< tt, refl) ((refl, tt, tt), tt)
               (λ uses lacking. cc),

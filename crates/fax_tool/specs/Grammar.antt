@@ -54,7 +54,7 @@ commands = (codes "list", part) ∷ (codes "rows", part ++ flag (codes "long") �
       letter 111 ∷ number (codes "order") 2 ∷ number (codes "k") most_rows
           ∷ number (codes "strip") most_rows ∷ flag (codes "align") ∷ file ∷ [],
     )
-    ∷ (codes "check", file ∷ []) ∷ (codes "salvage", file ∷ []) ∷ []
+    ∷ (codes "check", file ∷ flag (codes "received") ∷ []) ∷ (codes "salvage", file ∷ []) ∷ []
 
 -- one use of an item, with its text: a flag's is `true`
 pub record Use : Type 0 where

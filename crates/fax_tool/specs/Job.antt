@@ -79,7 +79,8 @@ IsCommand name given (Forms part) =
 IsCommand name given (Rows part) =
     (name ≡ codes "rows") × IsPart given (is_set (codes "long") given) part
 IsCommand name given (Convert options) = (name ≡ codes "convert") × AreOptions given options
-IsCommand name given Check = name ≡ codes "check"
+IsCommand name given (Check received) =
+    (name ≡ codes "check") × (received ≡ is_set (codes "received") given)
 IsCommand name given Salvage = name ≡ codes "salvage"
 IsCommand name given Version = ⊥
 

@@ -107,7 +107,7 @@ IsTextOf (Forms part) file =
 IsTextOf (Rows part) file =
     IsTextOfLines (AreRowLines file (origin_of part)) part.long part.max (origin_of part)
 IsTextOf (Convert options) file = IsConversionText options file
-IsTextOf Check file = IsCheckText file
+IsTextOf (Check received) file = IsCheckText received file
 IsTextOf Salvage file = IsSalvageText file
 IsTextOf Version file =
     λ printed. printed ≡ record { output = version_text; error = []; status = 0 }

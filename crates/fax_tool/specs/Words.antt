@@ -30,7 +30,7 @@ usage_for words = if names_salvage words then salvage_usage_text else usage_text
 
 -- the version's line
 abbrev pub version_text : List ℕ
-version_text = codes "faxpages 1.13.0\n"
+version_text = codes "faxpages 1.14.0\n"
 
 -- the text for the error stream, for these words
 abbrev pub words_text : List Text → WordsFault → List ℕ

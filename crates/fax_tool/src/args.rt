@@ -18,8 +18,9 @@ ghost use Rattle.fax_tool.specs.Run.{HasFailed};
 ghost use Rattle.fax_tool.specs.Streams.{no_faults};
 ghost use Rattle.fax_tool.specs.Words.{names_salvage, usage_for, words_status, words_text};
 ghost use Rattle.fax_tool.specs.code.CommandEntries.{HasEntries, HasFlag, HasNumber, HasOptions};
-ghost use Rattle.fax_tool.specs.code.CommandLine.{coding_app, convert_app, faxpages_app, file_app};
-ghost use Rattle.fax_tool.specs.code.CommandLine.{printers_app, printing_app, rows_app, value_rule};
+ghost use Rattle.fax_tool.specs.code.CommandLine.{check_app, coding_app, convert_app, faxpages_app};
+ghost use Rattle.fax_tool.specs.code.CommandLine.{file_app, printers_app, printing_app, rows_app};
+ghost use Rattle.fax_tool.specs.code.CommandLine.{value_rule};
 ghost use Rattle.fax_tool.specs.code.CommandEntries.{IsApp, IsCommandFault, IsNoCursor};
 ghost use Rattle.fax_tool.specs.code.CommandEntries.{IsNoLongCursor};
 ghost use Rattle.fax_tool.specs.code.CommandEntries.{entries_of, given_by};
@@ -51,7 +52,10 @@ pub enum Command {
     /// Writes the pages in another form.
     Convert(Options),
     /// Prints what is worth a note.
-    Check,
+    Check {
+        /// Whether what receivers counted of bad rows is among it.
+        received: bool,
+    },
     /// Prints the rows that stand between their EOLs, and which are lost.
     Salvage,
     /// Prints the version, and reads nothing.
@@ -309,6 +313,16 @@ fn reading<'a>(alloc: Global, name: &'a str) -> Result<clap::Command<'a>, AllocE
         .arg(Arg::new(alloc, "FILE"))
 }
 
+/// The command that prints what is worth a note.
+fn checking<'a>(alloc: Global) -> Result<clap::Command<'a>, AllocError>
+    ensures { IfOk result (λ c. IsApp c check_app) }
+{
+    let received = Arg::new(alloc, "received")
+        .long("received")
+        .action(ArgAction::SetTrue);
+    reading(alloc, "check")?.arg(received)
+}
+
 /// The program, with the commands that print a part of a file.
 fn printers<'a>(alloc: Global) -> Result<clap::Command<'a>, AllocError>
     ensures { IfOk result (λ c. IsApp c printers_app) }
@@ -327,7 +341,7 @@ fn command_line<'a>(alloc: Global) -> Result<clap::Command<'a>, AllocError>
 {
     printers(alloc)?
         .subcommand(converting(alloc)?)?
-        .subcommand(reading(alloc, "check")?)?
+        .subcommand(checking(alloc)?)?
         .subcommand(reading(alloc, "salvage")?)
 }
 
@@ -455,6 +469,14 @@ fn options_of(matches: &ArgMatches) -> Option<Options>
     })
 }
 
+/// Whether the words after `check` ask for what receivers counted.
+fn ask_for_received(matches: &ArgMatches) -> bool
+    requires { HasFlag (codes "received") (entries_of matches.now) }
+    ensures { result ≡ is_set (codes "received") (given_by (entries_of matches.now)) }
+{
+    matches.get_flag("received")
+}
+
 /// The command of this name, as the words after it want it.
 fn command_of(alloc: Global, name: &str, matches: &ArgMatches) -> Result<Command, WordsFault>
     requires { HasEntries name.now (entries_of matches.now) }
@@ -471,7 +493,9 @@ fn command_of(alloc: Global, name: &str, matches: &ArgMatches) -> Result<Command
             Some(options) => Ok(Command::Convert(options)),
             None => Err(WordsFault::Usage),
         },
-        "check" => Ok(Command::Check),
+        "check" => Ok(Command::Check {
+            received: ask_for_received(matches),
+        }),
         "salvage" => Ok(Command::Salvage),
         _ => Err(WordsFault::Usage),
     }

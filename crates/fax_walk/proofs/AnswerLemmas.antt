@@ -1,6 +1,6 @@
 -- What is converted has one output or one fault, and what is checked has one report.
 use Rattle.std.proofs.lemmas.Grind.{common_steps}
-use Rattle.std.proofs.Common.{arith, ◌≡◌, ℕ, List, length, Option, None, Err, refl, ap, sym}
+use Rattle.std.proofs.Common.{arith, ◌≡◌, Bool, ℕ, List, length, Option, None, Err, refl, ap, sym}
 use Rattle.std.proofs.Common.{◌∙◌, subst}
 use Rattle.std.proofs.Common.{inl, inr, codes}
 use Rattle.std.specs.Prelude.{flat_map}
@@ -119,19 +119,21 @@ module _ (file : List ℕ) where
       → IsReportedEnd file end others other → (pages ≡ others) × (fault ≡ other)
   one_end end pages others fault other first second = grind (arith, proper_once)
 
-single_noted : (file : List ℕ) (at : ℕ × Option ℕ) → IsSingle (IsNoted file at)
-single_noted file (p, strip) =
+single_noted : (with_received : Bool) (file : List ℕ) (at : ℕ × Option ℕ) → IsSingle (IsNoted with_received file at)
+single_noted with_received file (p, strip) =
     single_on_page (read_page file (record { page = p; row = 0 }))
-    (λ here (step : NextItem (List Note) (ℕ × Option ℕ)). step ≡ noted_on file p strip here) ends_as
+    (λ here (step : NextItem (List Note) (ℕ × Option ℕ)). step ≡ noted_on with_received file p strip here) ends_as
     (λ here x y first second. first ∙ sym second)
 
 pub files_have_one_report : FilesHaveOneItems → FilesHaveOneReport
-files_have_one_report one_items file report other first second =
+files_have_one_report one_items with_received file report other first second =
     let rows = two_of (one_items file) first.items second.items first.end second.end first.read second.read in
     let end_is = subst (λ (e : End). IsReportedEnd file e other.pages other.fault) (sym rows.1) second.end_is in
     let ends = one_end file first.end report.pages other.pages report.fault other.fault first.end_is end_is in
-    let noted = subst (λ (e : End). AreFrom (IsNoted file) (0, None) second.notes e) (sym rows.1) second.noted in
-    let notes = single_from (IsNoted file) (single_noted file) (0, None) first.notes second.notes first.end
+    let noted = subst (λ (e : End). AreFrom (IsNoted with_received file) (0, None) second.notes e) (sym rows.1)
+    second.noted in
+    let notes = single_from (IsNoted with_received file) (single_noted with_received file) (0, None) first.notes
+    second.notes first.end
     first.end first.noted noted in
     record {
       notes = first.notes_are ∙ ap (λ l. flat_map (λ own. own) l) notes.0 ∙ sym second.notes_are;

@@ -11,7 +11,8 @@ use Rattle.fax_walk.specs.declared.salvage.SalvageItem.TheVariants.{Row, Lost as
 use Rattle.fax_walk.specs.declared.salvage_rows.SalvagedPart.TheVariants.{Found, Lost}
 use Rattle.fax_walk.specs.Items.{exchanged}
 use Rattle.fax_walk.specs.code.SalvagePage.{SalvagePageState, EndsOnPage, GivesOfPage, HasPassedLost}
-use Rattle.fax_walk.specs.code.SalvagePage.{IsGoneThrough, IsLeftOnPage, yielded_of, longer, row_after, rows_of}
+use Rattle.fax_walk.specs.code.SalvagePage.{IsGoneThrough, IsLeftOnPage, yielded_of, row_after, rows_of}
+use Rattle.fax_walk.specs.views.LostRows.{longer}
 use Rattle.std.proofs.Common.{Bool}
 use Rattle.fax_walk.specs.code.SalvagePage.{with_lost, with_waiting}
 use Rattle.std.specs.Prelude.{if◌then◌else◌}

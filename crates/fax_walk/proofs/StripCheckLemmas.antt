@@ -47,9 +47,9 @@ pub record IsPageToCheck (directory : TiffDirectory) (form : PageForm) (p : ℕ)
   pub here : IsDirectoryOfPage directory p
 
 -- before the page's first strip
-pub none_before : (directory : TiffDirectory) (form : PageForm) (p : ℕ) (notes : List Note)
-    → AreStripsChecked directory form p 0 notes notes
-none_before directory form p notes = grind (arith, append-nil, nothing_checked)
+pub none_before : (with_received : Bool) (directory : TiffDirectory) (form : PageForm) (p : ℕ) (notes : List Note)
+    → AreStripsChecked with_received directory form p 0 notes notes
+none_before with_received directory form p notes = grind (arith, append-nil, nothing_checked)
 
 -- a strip with notes has all its rows, and one with none has a fault after so many
 abbrev notes_or_fault : StripForm → List Bool → StripRead → Option StripFault → Result StripNotes (ℕ × StripFault)
@@ -101,117 +101,14 @@ module _ (directory : TiffDirectory) (form : PageForm) (p : ℕ) (on : IsPageToC
   whole : IsWholeForm form
   whole = whole_of form on.limits
 
-  abbrev Checks : ℕ → List Note → List Note → Type 0
-  Checks s old new = AreStripsChecked directory form p s old new
-
   -- before a strip that the page has
   at_strip : (s : ℕ) → s < form.strips → before_strip form p s ≡ record { next = (p, Some s); row = first_at p (s * n) }
   at_strip s upcoming = grind (arith, whole)
-
-  -- what is found on a strip
-  noted_in : (s : ℕ) (answer : NextItem (List Note) (ℕ × Option ℕ))
-      → answer ≡ noted_strip form p s (bytes_of directory s) → IsNoted file ((p, Some s)) answer
-  noted_in s answer is = rw (page 0) is
 
   noted_of : (s : ℕ) (bytes : List ℕ) (found : Result StripNotes (ℕ × StripFault)) → bytes_of directory s ≡ Some bytes
       → noted (strip_form form s) (bits form.order bytes) ≡ found
       → noted_strip form p s (bytes_of directory s) ≡ noted_by form p s found
   noted_of s bytes found there is = ap (noted_strip form p s) there ∙ ap (noted_by form p s) is
-
-  -- one more strip is whole
-  pub strip_after : (s : ℕ) (old middle new : List Note) (bytes : List ℕ) (found : StripNotes)
-      → s < form.strips → Checks s old middle → bytes_of directory s ≡ Some bytes
-      → noted (strip_form form s) (bits form.order bytes) ≡ Ok found → new ≡ middle ++ notes_on_strip p s found
-      → Checks (s + 1) old new
-  strip_after s old middle new bytes found upcoming so_far there is new_is =
-      let read_of_bits = read_strip (strip_form form s) (bits form.order bytes) in
-      let rows = read_of_bits.rows in
-      let strip : IsStrip (strip_form form s) (bits form.order bytes) rows None =
-      (refl, end_of (strip_form form s) (bits form.order bytes) read_of_bits found is) in
-      let below = whole.needed s upcoming in
-      let count = strip_count (strip_form form s) (bits form.order bytes) rows None strip in
-      let total : min (s * n) form.rows + length rows ≡ min ((s + 1) * n) form.rows = omega (arith, count, below) in
-      let place : s * n + length rows ≡ min ((s + 1) * n) form.rows = omega (arith, count, below) in
-      let read =
-      strip_rows on.by_place on.lines_read file directory.endian directory.offset form p page whole s below bytes there
-      rows None strip in
-      let to = rw place at read.there in
-      let this : HasChecked file (before_strip form p s) (before_strip form p (s + 1)) (notes_on_strip p s found)
-      (length rows) =
-      rw (at_strip s upcoming) (record {
-        found = notes_on_strip p s found ∷ [];
-        lead = ((before_strip form p (s + 1)).next, noted_in s _ (sym (noted_of s bytes (Ok found) there is)), refl);
-        notes_are = sym (append-nil (notes_on_strip p s found));
-        items = read.items;
-        lead_rows = rw to at read.lead;
-        count = sym (walked_length file p (first_at p (s * n)) (s * n) (shown form rows) _ read
-            ∙ shown_length form rows);
-      }) in
-      record {
-        noted = so_far.noted ++ notes_on_strip p s found;
-        notes_are = rw (new_is, so_far.notes_are, append_assoc old so_far.noted (notes_on_strip p s found)) refl;
-        is = rw total at
-            (checked_on file (before_strip form p 0) (before_strip form p s) (before_strip form p (s + 1)) so_far.noted
-            (notes_on_strip p s found) (min (s * n) form.rows) (length rows) so_far.is this);
-      }
-
-  -- the rest of the page, from its first strip on
-  abbrev Rest : List Note → List Note → PageRead → Type 0
-  Rest old new read = IsRestChecked file (before_strip form p 0) p old new read
-
-  -- all strips are whole
-  pub all_read : (s : ℕ) (old new : List Note) → s ≡ form.strips → Checks s old new
-      → Rest old new (record { rows = form.rows; fault = None })
-  all_read s old new all so_far = grind arith
-
-  -- the page's rows end at a fault, after so many rows of a strip
-  fault_after : (s rows : ℕ) (cause : Cause) (old new : List Note) → s < form.strips → s * n + rows < form.rows
-      → Checks s old new → (row : RowPosition) (items : List RowItem)
-      → LeadTo (IsRow file) (first_at p (s * n)) items row
-      → rows ≡ length items
-      → ends_as (Fault p (s * n + rows) cause) ≡ noted_strip form p s (bytes_of directory s)
-      → IsRow file row (ends_as (Fault p (s * n + rows) cause))
-      → Rest old new (record { rows = s * n + rows; fault = Some cause })
-  fault_after s rows cause old new upcoming inside so_far row items lead count is_noted stop =
-      let total : min (s * n) form.rows + rows ≡ s * n + rows = omega (arith, inside) in
-      let to : CheckPlace = record { next = (p, Some s); row = row } in
-      let strip : HasChecked file (before_strip form p s) to [] rows =
-      rw (at_strip s upcoming) (record {
-        found = [];
-        lead = refl;
-        notes_are = refl;
-        items = items;
-        lead_rows = lead;
-        count =
-            count;
-      }) in
-      record {
-        noted = so_far.noted;
-        notes_are = so_far.notes_are;
-        few = omega (arith, on.limits.rows, inside);
-        to = to;
-        is = rw (append-nil so_far.noted, total) at
-            (checked_on file (before_strip form p 0) (before_strip form p s) to so_far.noted [] (min (s * n) form.rows)
-            rows so_far.is strip);
-        after = (noted_in s _ is_noted, stop);
-      }
-
-  -- a strip does not lie in the file
-  pub strip_outside : (s : ℕ) (old new : List Note) → s < form.strips → Checks s old new
-      → bytes_of directory s ≡ None → Rest old new (record { rows = s * n; fault = Some (File StripOutside) })
-  strip_outside s old new upcoming so_far none =
-      let number = in_strip n s 0 (s * n) whole.some_in_strip (omega arith) in
-      let end : End = Fault p (s * n) (File StripOutside) in
-      let zero : s * n + 0 ≡ s * n = omega arith in
-      rw zero at
-      (fault_after s 0 (File StripOutside) old new upcoming (omega (arith, whole.needed s upcoming)) so_far (first_at p
-      (s * n))
-      [] refl refl
-      (rw (none, zero) refl)
-      (rw zero
-      (row_at on.by_place on.lines_read file directory.endian directory.offset form p page whole (s * n) None None
-      (ends_as end)
-      (rw number.0 none) (rw number.0 refl))))
 
   -- the rows of a strip end at a fault inside the page
   inside_page : (s : ℕ) (bytes : List ℕ) (rows : List (List Colour)) (fault : StripFault) → s < form.strips
@@ -233,24 +130,133 @@ module _ (directory : TiffDirectory) (form : PageForm) (p : ℕ) (on : IsPageToC
       let stopped = fault_of (strip_form form s) (bits form.order b) strip row fault is in
       omega (arith, stopped.1, on.limits.rows, inside_page s b strip.rows fault upcoming (refl, stopped.0))
 
-  pub strip_fault : (s : ℕ) (old new : List Note) (b : List ℕ) (fault : NotesFault) (read : PageRead)
-      → s < form.strips → Checks s old new → bytes_of directory s ≡ Some b
-      → IsNotesFault (strip_form form s) (bits form.order b) fault → IsReadTo (s * n) fault read → Rest old new read
-  strip_fault s old new b Memory read upcoming so_far there refused none = absurd none
-  strip_fault s old new b (RowOfStrip row fault) read upcoming so_far there is read_is =
-      let read_of_bits = read_strip (strip_form form s) (bits form.order b) in
-      let rows = read_of_bits.rows in
-      let (end_is, row_is) = fault_of (strip_form form s) (bits form.order b) read_of_bits row fault is in
-      let strip : IsStrip (strip_form form s) (bits form.order b) rows (Some fault) = (refl, end_is) in
-      let rows_read =
-      strip_rows on.by_place on.lines_read file directory.endian directory.offset form p page whole s
-      (whole.needed s upcoming) b there rows
-      (Some fault) strip in
-      rw (read_is, ← row_is)
-      (fault_after s (length rows) (Strip fault) old new upcoming (inside_page s b rows fault upcoming strip) so_far
-      rows_read.to
-      rows_read.items
-      rows_read.lead (sym (walked_length file p (first_at p (s * n)) (s * n) (shown form rows) _ rows_read
-      ∙ shown_length form rows))
-      (ap (λ k. ends_as (Fault p (s * n + k) (Strip fault))) row_is
-      ∙ sym (noted_of s b (Err (row, fault)) there is)) rows_read.there)
+  module _ (with_received : Bool) where
+    abbrev Checks : ℕ → List Note → List Note → Type 0
+    Checks s old new = AreStripsChecked with_received directory form p s old new
+
+    -- what is found on a strip
+    noted_in : (s : ℕ) (answer : NextItem (List Note) (ℕ × Option ℕ))
+        → answer ≡ noted_strip form p s (bytes_of directory s) → IsNoted with_received file ((p, Some s)) answer
+    noted_in s answer is = rw (page 0) is
+
+    -- one more strip is whole
+    pub strip_after : (s : ℕ) (old middle new : List Note) (bytes : List ℕ) (found : StripNotes)
+        → s < form.strips → Checks s old middle → bytes_of directory s ≡ Some bytes
+        → noted (strip_form form s) (bits form.order bytes) ≡ Ok found → new ≡ middle ++ notes_on_strip p s found
+        → Checks (s + 1) old new
+    strip_after s old middle new bytes found upcoming so_far there is new_is =
+        let read_of_bits = read_strip (strip_form form s) (bits form.order bytes) in
+        let rows = read_of_bits.rows in
+        let strip : IsStrip (strip_form form s) (bits form.order bytes) rows None =
+        (refl, end_of (strip_form form s) (bits form.order bytes) read_of_bits found is) in
+        let below = whole.needed s upcoming in
+        let count = strip_count (strip_form form s) (bits form.order bytes) rows None strip in
+        let total : min (s * n) form.rows + length rows ≡ min ((s + 1) * n) form.rows = omega (arith, count, below) in
+        let place : s * n + length rows ≡ min ((s + 1) * n) form.rows = omega (arith, count, below) in
+        let read =
+        strip_rows on.by_place on.lines_read file directory.endian directory.offset form p page whole s below bytes
+        there
+        rows None strip in
+        let to = rw place at read.there in
+        let this : HasChecked with_received file (before_strip form p s) (before_strip form p (s + 1)) (notes_on_strip p
+        s found)
+        (length rows) =
+        rw (at_strip s upcoming) (record {
+          found = notes_on_strip p s found ∷ [];
+          lead = ((before_strip form p (s + 1)).next, noted_in s _ (sym (noted_of s bytes (Ok found) there is)), refl);
+          notes_are = sym (append-nil (notes_on_strip p s found));
+          items = read.items;
+          lead_rows = rw to at read.lead;
+          count = sym (walked_length file p (first_at p (s * n)) (s * n) (shown form rows) _ read
+              ∙ shown_length form rows);
+        }) in
+        record {
+          noted = so_far.noted ++ notes_on_strip p s found;
+          notes_are = rw (new_is, so_far.notes_are, append_assoc old so_far.noted (notes_on_strip p s found)) refl;
+          is = rw total at
+              (checked_on with_received file (before_strip form p 0) (before_strip form p s) (before_strip form p (s +
+              1)) so_far.noted
+              (notes_on_strip p s found) (min (s * n) form.rows) (length rows) so_far.is this);
+        }
+
+    -- the rest of the page, from its first strip on
+    abbrev Rest : List Note → List Note → PageRead → Type 0
+    Rest old new read = IsRestChecked with_received file (before_strip form p 0) p old new read
+
+    -- all strips are whole
+    pub all_read : (s : ℕ) (old new : List Note) → s ≡ form.strips → Checks s old new
+        → Rest old new (record { rows = form.rows; fault = None })
+    all_read s old new all so_far = grind arith
+
+    -- the page's rows end at a fault, after so many rows of a strip
+    fault_after : (s rows : ℕ) (cause : Cause) (old new : List Note) → s < form.strips → s * n + rows < form.rows
+        → Checks s old new → (row : RowPosition) (items : List RowItem)
+        → LeadTo (IsRow file) (first_at p (s * n)) items row
+        → rows ≡ length items
+        → ends_as (Fault p (s * n + rows) cause) ≡ noted_strip form p s (bytes_of directory s)
+        → IsRow file row (ends_as (Fault p (s * n + rows) cause))
+        → Rest old new (record { rows = s * n + rows; fault = Some cause })
+    fault_after s rows cause old new upcoming inside so_far row items lead count is_noted stop =
+        let total : min (s * n) form.rows + rows ≡ s * n + rows = omega (arith, inside) in
+        let to : CheckPlace = record { next = (p, Some s); row = row } in
+        let strip : HasChecked with_received file (before_strip form p s) to [] rows =
+        rw (at_strip s upcoming) (record {
+          found = [];
+          lead = refl;
+          notes_are = refl;
+          items = items;
+          lead_rows = lead;
+          count =
+              count;
+        }) in
+        record {
+          noted = so_far.noted;
+          notes_are = so_far.notes_are;
+          few = omega (arith, on.limits.rows, inside);
+          to = to;
+          is = rw (append-nil so_far.noted, total) at
+              (checked_on with_received file (before_strip form p 0) (before_strip form p s) to so_far.noted [] (min (s
+              * n) form.rows)
+              rows so_far.is strip);
+          after = (noted_in s _ is_noted, stop);
+        }
+
+    -- a strip does not lie in the file
+    pub strip_outside : (s : ℕ) (old new : List Note) → s < form.strips → Checks s old new
+        → bytes_of directory s ≡ None → Rest old new (record { rows = s * n; fault = Some (File StripOutside) })
+    strip_outside s old new upcoming so_far none =
+        let number = in_strip n s 0 (s * n) whole.some_in_strip (omega arith) in
+        let end : End = Fault p (s * n) (File StripOutside) in
+        let zero : s * n + 0 ≡ s * n = omega arith in
+        rw zero at
+        (fault_after s 0 (File StripOutside) old new upcoming (omega (arith, whole.needed s upcoming)) so_far (first_at
+        p
+        (s * n))
+        [] refl refl
+        (rw (none, zero) refl)
+        (rw zero
+        (row_at on.by_place on.lines_read file directory.endian directory.offset form p page whole (s * n) None None
+        (ends_as end)
+        (rw number.0 none) (rw number.0 refl))))
+
+    pub strip_fault : (s : ℕ) (old new : List Note) (b : List ℕ) (fault : NotesFault) (read : PageRead)
+        → s < form.strips → Checks s old new → bytes_of directory s ≡ Some b
+        → IsNotesFault (strip_form form s) (bits form.order b) fault → IsReadTo (s * n) fault read → Rest old new read
+    strip_fault s old new b Memory read upcoming so_far there refused none = absurd none
+    strip_fault s old new b (RowOfStrip row fault) read upcoming so_far there is read_is =
+        let read_of_bits = read_strip (strip_form form s) (bits form.order b) in
+        let rows = read_of_bits.rows in
+        let (end_is, row_is) = fault_of (strip_form form s) (bits form.order b) read_of_bits row fault is in
+        let strip : IsStrip (strip_form form s) (bits form.order b) rows (Some fault) = (refl, end_is) in
+        let rows_read =
+        strip_rows on.by_place on.lines_read file directory.endian directory.offset form p page whole s
+        (whole.needed s upcoming) b there rows
+        (Some fault) strip in
+        rw (read_is, ← row_is)
+        (fault_after s (length rows) (Strip fault) old new upcoming (inside_page s b rows fault upcoming strip) so_far
+        rows_read.to
+        rows_read.items
+        rows_read.lead (sym (walked_length file p (first_at p (s * n)) (s * n) (shown form rows) _ rows_read
+        ∙ shown_length form rows))
+        (ap (λ k. ends_as (Fault p (s * n + k) (Strip fault))) row_is
+        ∙ sym (noted_of s b (Err (row, fault)) there is)) rows_read.there)

@@ -3,6 +3,7 @@ pub mod Walk
 pub mod Pages
 pub mod SparseBytes
 pub mod Lent
+pub mod LostRows
 pub mod SalvageItems
 pub mod SalvagedRows
 pub mod RowsFrom

@@ -25,7 +25,7 @@ mod shown_rows;
 mod walk;
 mod walk_start;
 
-pub use checking::{Note, NoteKind, Report, check};
+pub use checking::{Note, NoteKind, Report, check, check_received};
 pub use conversion::{convert, convert_sparse};
 pub use cursor::{Cursor, NotACursor};
 pub use end::{End, WalkFault};

@@ -243,7 +243,7 @@ impl<'a> SalvagedRows<'a> {
         next_of(&mut self.remaining)
     }
 
-    /// The row that was found last.
+    /// The row of the last part, where that is `Found`.
     pub fn row(&self) -> &Row
         ensures pels { result.now ≡ self.now.last }
         ensures width { length result.now ≡ self.now.width }

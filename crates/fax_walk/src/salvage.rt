@@ -1,6 +1,6 @@
 //! What is left of a damaged file: the rows that are found, and the stretches that are lost.
 
-ghost use Rattle.std.specs.Prelude.{◌≡◌, ℕ, IfOk, List};
+ghost use Rattle.std.specs.Prelude.{◌≡◌, IfOk};
 ghost use Rattle.fax_walk.specs.code.Opening.{IsFileChain};
 ghost use Rattle.fax_walk.specs.code.SalvageFile as Spec;
 
@@ -25,10 +25,34 @@ pub struct LostRows {
     pub cause: Cause,
 }
 
+impl LostRows {
+    ghost use Rattle.fax_walk.specs.views.LostRows as Lost;
+
+    /// The stretch that ends before a row of a page, where there is one, with so many rows more,
+    /// which are lost for this cause.
+    pub fn longer(lost: Option<LostRows>, page: u32, row: u32, rows: u32, cause: Cause) -> LostRows
+        requires { Lost.CanGrowBy lost rows }
+        ensures { result ≡ Lost.longer lost page row rows cause }
+    {
+        match lost {
+            Some(stretch) => LostRows {
+                rows: stretch.rows + rows,
+                ..stretch
+            },
+            None => LostRows {
+                page,
+                row,
+                rows,
+                cause,
+            },
+        }
+    }
+}
+
 /// What is returned of a damaged file.
 #[derive(Clone, Copy, Debug, PartialEq, Eq)]
 pub enum SalvageItem {
-    /// A row that is found; `Salvage::row` lends it.
+    /// A row that is found; `Salvage::row` lends it, up to the next call.
     Row(Place),
     /// Rows that are lost. A stretch ends where a row is found or the page ends.
     Lost(LostRows),
@@ -221,7 +245,8 @@ impl<'a> Salvage<'a> {
         self.whole
     }
 
-    /// The row that was found last, if a row of the page that is gone through was found.
+    /// The row of the last item, where that is one. After another item it may be another row of the
+    /// page that is read, and where no page is, there is none.
     pub fn row(&self) -> Option<&Row>
         ensures { IsLentLast self.now.last result }
     {

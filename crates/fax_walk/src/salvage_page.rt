@@ -1,5 +1,5 @@
 //! What is left of a page: rows, and stretches of rows that are lost.
-ghost use Rattle.std.specs.Prelude.{◌≡◌, ◌<◌, IfOk, List, Ok, length};
+ghost use Rattle.std.specs.Prelude.{◌≡◌, ◌<◌, IfOk, List, Ok};
 ghost use Rattle.fax_walk.specs.Salvaged.{SalvagedItem};
 ghost use Rattle.fax_files.specs.views.Page.{IsPageForm};
 ghost use Rattle.fax_files.specs.views.Tiff.{form_of};
@@ -14,26 +14,6 @@ use fax_files::{Cause, PageForm, Strips};
 use fax_rows::Row;
 use std::alloc::Global;
 use std::marker::Model;
-
-/// The stretch of lost rows that ends before a row of a page, with so many rows more, which are
-/// lost for this cause.
-fn longer(lost: Option<LostRows>, page: u32, row: u32, rows: u32, cause: Cause) -> LostRows
-    requires { Spec.HasRoom lost rows }
-    ensures { result ≡ Spec.longer lost page row rows cause }
-{
-    match lost {
-        Some(stretch) => LostRows {
-            rows: stretch.rows + rows,
-            ..stretch
-        },
-        None => LostRows {
-            page,
-            row,
-            rows,
-            cause,
-        },
-    }
-}
 
 /// A page that is gone through. Contracts see its number, how far its rows are gone through, the
 /// rows that are lost before the next one, whether a row that is found waits to be returned, and
@@ -137,7 +117,7 @@ impl<'a> SalvagePage<'a> {
                     return Some(SalvageItem::Lost(stretch));
                 }
                 SalvagedPart::Lost { rows, cause } => {
-                    self.lost = Some(longer(self.lost, self.page, self.row, rows, cause));
+                    self.lost = Some(LostRows::longer(self.lost, self.page, self.row, rows, cause));
                     self.row += rows;
                 }
             }

@@ -35,7 +35,7 @@ pub trait CodeTable {
     /// How many entries it has.
     const COUNT: usize;
 
-    /// The entry at a place below `COUNT`.
+    /// The entry at an index below `COUNT`.
     // requires { i < COUNT }
     // ensures found { slice_get table i ≡ Some result }
     // ensures not_empty { 0 < result.len }

@@ -1,5 +1,5 @@
 // Made by tools/plain-rust of crates/fax_bits/src/indexes.rt: change that.
-//! Where the codes that begin bits stand in the code tables: a place of the table for each number
+//! Where the codes that begin bits stand in the code tables: an index of the table for each number
 //! that the bits spell, and the length of the table where no code begins them. Then what the code
 //! of a vertical mode that begins bits means, what a white and a black terminating code mean, and
 //! the codes of two short runs together. It is printed by `make-indexes` from the tables.

@@ -19,13 +19,13 @@ pub(crate) static VERTICAL_CODES: VerticalCodes = VerticalCodes {
     lens: [7, 6, 3, 1, 3, 6, 7],
 };
 
-/// The code at a place of the run table of a colour.
+/// The code at an index of the run table of a colour.
 #[inline(always)]
-// requires { place < 105 }
-// ensures bits { result ≡ run_code_bits colour (run_meaning place) }
+// requires { index < 105 }
+// ensures bits { result ≡ run_code_bits colour (run_meaning index) }
 // ensures short { length result ≤ LONGEST_CODE }
-fn run_code(colour: Colour, place: usize) -> PendingBits {
-    let entry = run_entry(colour, place);
+fn run_code(colour: Colour, index: usize) -> PendingBits {
+    let entry = run_entry(colour, index);
     PendingBits::of(u32::from(entry.code), u32::from(entry.len))
 }
 
@@ -57,10 +57,10 @@ fn codes_of_run(colour: Colour, n: u32) -> PendingBits {
 // requires { IsWritten (Vertical d) }
 // ensures { result ≡ mode_bits (Vertical d) }
 fn vertical_code(d: i8) -> PendingBits {
-    let place = (i32::from(d) + 3) as usize;
+    let index = (i32::from(d) + 3) as usize;
     PendingBits::of(
-        u32::from(VERTICAL_CODES.codes[place]),
-        u32::from(VERTICAL_CODES.lens[place]),
+        u32::from(VERTICAL_CODES.codes[index]),
+        u32::from(VERTICAL_CODES.lens[index]),
     )
 }
 
@@ -115,7 +115,7 @@ impl PendingBits {
     ///
     /// # Errors
     ///
-    /// Where a growth was refused. The pending bits and those of the run were put up to some place
+    /// Where a growth was refused. The pending bits and those of the run were put up to some index
     /// then.
     #[inline(always)]
     // requires { n < 2 ^ 16 }

@@ -110,7 +110,7 @@ impl CodeTable for BlackRuns {
     }
 }
 
-/// The entry at a place of the run table of a colour.
+/// The entry at an index of the run table of a colour.
 #[inline(always)]
 // requires { i < 105 }
 // ensures found { slice_get (run_table colour) i ≡ Some result }
@@ -132,19 +132,19 @@ pub(crate) fn run_entry(colour: Colour, i: usize) -> CodeEntry<RunCode> {
 // ensures { MatchOption result (HasNoCode (run_table colour) (code_bits n window))
 //     (λ found. HasCodeAhead (run_table colour) (code_bits n window) found.0 found.1) }
 fn find_run(colour: Colour, window: u32, n: u32) -> Option<(u32, RunCode)> {
-    let place = run_index(colour, window << (LONGEST_CODE - n));
-    if place < RUN_ENTRIES {
-        within(run_entry(colour, place), n)
+    let index = run_index(colour, window << (LONGEST_CODE - n));
+    if index < RUN_ENTRIES {
+        within(run_entry(colour, index), n)
     } else {
         None
     }
 }
 
-/// The place of the code that begins thirteen bits in the run table of a colour, or the number of
+/// The index of the code that begins thirteen bits in the run table of a colour, or the number of
 /// codes where none does.
 #[inline(always)]
 // requires { bits < 2 ^ LONGEST_CODE }
-// ensures { result ≡ place_of (run_table colour) LONGEST_CODE bits }
+// ensures { result ≡ index_of (run_table colour) LONGEST_CODE bits }
 fn run_index(colour: Colour, bits: u32) -> usize {
     let at = bits as usize;
     match colour {
@@ -170,18 +170,18 @@ pub(crate) fn find_run_code(colour: Colour, bits: u32) -> Option<(u32, RunCode)>
         Colour::White => WHITE_SHORT[at >> 4],
         Colour::Black => BLACK_SHORT[at >> 7],
     };
-    let mut place = usize::from(short);
-    if place >= EXTENSION {
-        place = run_index(colour, bits);
-        if place >= EXTENSION {
+    let mut index = usize::from(short);
+    if index >= EXTENSION {
+        index = run_index(colour, bits);
+        if index >= EXTENSION {
             return None;
         }
     }
-    let entry = run_entry(colour, place);
+    let entry = run_entry(colour, index);
     Some((u32::from(entry.len), entry.meaning))
 }
 
-/// What the code at a place of a run table means.
+/// What the code at an index of a run table means.
 // requires { i < 105 }
 // ensures { result ≡ run_meaning i }
 fn meaning_at(i: u16) -> RunCode {

@@ -2,6 +2,7 @@
 //! The names of faults, statuses and notes.
 
 use crate::caller_text::put_text;
+use crate::received::none_received;
 use fax_files::{Cause, FileFault, PbmFault, StripFault};
 use fax_walk::NoteKind;
 
@@ -122,7 +123,7 @@ pub fn faxpages_status_name(number: u32, name: &mut [u8]) -> usize {
     put_text(status_name(number).as_bytes(), name)
 }
 
-/// The kind of notes with this number, if one has it.
+/// The kind of notes with this number, if one has it. Its name does not go by what it counts.
 // ensures { MatchOption result ((kind : TheNoteKind) → (number_and_name kind).0 ≢ number)
 //     (λ kind. (number_and_name kind).0 ≡ number) }
 fn note_kind(number: u32) -> Option<NoteKind> {
@@ -132,6 +133,7 @@ fn note_kind(number: u32) -> Option<NoteKind> {
         3 => Some(NoteKind::DataAfterEnd),
         4 => Some(NoteKind::NotT4Choice),
         5 => Some(NoteKind::EntriesOutOfOrder),
+        6 => Some(NoteKind::BadFaxLines(none_received())),
         _ => None,
     }
 }

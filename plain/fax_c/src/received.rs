@@ -42,7 +42,7 @@ impl FaxReceived {
 
 /// A page that says none of the numbers.
 // ensures { result ≡ Spec.none_received }
-fn none_received() -> Received {
+pub(crate) fn none_received() -> Received {
     Received {
         bad_rows: None,
         clean: None,

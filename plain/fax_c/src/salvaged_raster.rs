@@ -11,7 +11,6 @@ use crate::strip_form::FaxStrip;
 use crate::strip_rows::readable_form;
 use crate::told::FaxTold;
 use crate::uncounted_strip::{tell_end, uncounted_form};
-use fax_files::Cause;
 use fax_page::{RowsEnd, StripForm};
 use fax_walk::{Cursor, DamagedPage, LostRows, SalvagedPart, SalvagedRows};
 use kit_std::alloc::Global;
@@ -37,31 +36,6 @@ impl FaxLost {
             rows: stretch.rows,
             fault: fault_number(stretch.cause),
         }
-    }
-}
-
-/// The stretch that ends before a row of a page, with so many rows more, which are lost for this
-/// cause.
-// requires { Walk.HasRoom lost rows }
-// ensures { result ≡ Walk.longer lost page row rows cause }
-pub(crate) fn longer(
-    lost: Option<LostRows>,
-    page: u32,
-    row: u32,
-    rows: u32,
-    cause: Cause,
-) -> LostRows {
-    match lost {
-        Some(stretch) => LostRows {
-            rows: stretch.rows + rows,
-            ..stretch
-        },
-        None => LostRows {
-            page,
-            row,
-            rows,
-            cause,
-        },
     }
 }
 
@@ -140,7 +114,7 @@ fn fill_left(
             }
             SalvagedPart::Lost { rows, cause } => {
                 at = put_lost(rows, stride, out, at);
-                ended = Some(longer(ended, page, row, rows, cause));
+                ended = Some(LostRows::longer(ended, page, row, rows, cause));
                 row += rows;
             }
         }

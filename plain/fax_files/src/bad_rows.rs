@@ -5,8 +5,7 @@ use crate::directory::Directory;
 use crate::tags::{BAD_FAX_LINES, CLEAN_FAX_DATA, CONSECUTIVE_BAD_FAX_LINES};
 
 /// What the receiver of a page counted of bad rows, those that it could not read. A number is
-/// `None`
-/// where the page has no field of it, SHORT or LONG, whose first value lies in the file.
+/// `None` where the page has no field of it, SHORT or LONG, whose first value lies in the file.
 #[derive(Clone, Copy, Debug, PartialEq, Eq)]
 pub struct Received {
     /// How many rows were bad (RFC 2306, BadFaxLines), 0 to 4,294,967,295.
@@ -31,8 +30,7 @@ impl<'a> Directory<'a> {
 
     /// What the receiver of the page counted of bad rows, whatever else its fields say. No field
     /// of these is refused: one that cannot be read is none (RFC 2306, BadFaxLines, CleanFaxData
-    /// and
-    /// ConsecutiveBadFaxLines).
+    /// and ConsecutiveBadFaxLines).
     // ensures { result ≡ received_of self.now }
     pub fn received(&self) -> Received {
         Received {

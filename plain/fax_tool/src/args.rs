@@ -30,7 +30,10 @@ pub enum Command {
     /// Writes the pages in another form.
     Convert(Options),
     /// Prints what is worth a note.
-    Check,
+    Check {
+        /// Whether what receivers counted of bad rows is among it.
+        received: bool,
+    },
     /// Prints the rows that stand between their EOLs, and which are lost.
     Salvage,
     /// Prints the version, and reads nothing.
@@ -250,6 +253,15 @@ fn reading<'a>(alloc: Global, name: &'a str) -> Result<clap::Command<'a>, AllocE
         .arg(Arg::new(alloc, "FILE"))
 }
 
+/// The command that prints what is worth a note.
+// ensures { IfOk result (λ c. IsApp c check_app) }
+fn checking<'a>(alloc: Global) -> Result<clap::Command<'a>, AllocError> {
+    let received = Arg::new(alloc, "received")
+        .long("received")
+        .action(ArgAction::SetTrue);
+    reading(alloc, "check")?.arg(received)
+}
+
 /// The program, with the commands that print a part of a file.
 // ensures { IfOk result (λ c. IsApp c printers_app) }
 fn printers<'a>(alloc: Global) -> Result<clap::Command<'a>, AllocError> {
@@ -266,7 +278,7 @@ fn printers<'a>(alloc: Global) -> Result<clap::Command<'a>, AllocError> {
 fn command_line<'a>(alloc: Global) -> Result<clap::Command<'a>, AllocError> {
     printers(alloc)?
         .subcommand(converting(alloc)?)?
-        .subcommand(reading(alloc, "check")?)?
+        .subcommand(checking(alloc)?)?
         .subcommand(reading(alloc, "salvage")?)
 }
 
@@ -387,6 +399,13 @@ fn options_of(matches: &ArgMatches) -> Option<Options> {
     })
 }
 
+/// Whether the words after `check` ask for what receivers counted.
+// requires { HasFlag (codes "received") (entries_of matches.now) }
+// ensures { result ≡ is_set (codes "received") (given_by (entries_of matches.now)) }
+fn ask_for_received(matches: &ArgMatches) -> bool {
+    matches.get_flag("received")
+}
+
 /// The command of this name, as the words after it want it.
 // requires { HasEntries name.now (entries_of matches.now) }
 // ensures command { IfOk result (λ command.
@@ -402,7 +421,9 @@ fn command_of(alloc: Global, name: &str, matches: &ArgMatches) -> Result<Command
             Some(options) => Ok(Command::Convert(options)),
             None => Err(WordsFault::Usage),
         },
-        "check" => Ok(Command::Check),
+        "check" => Ok(Command::Check {
+            received: ask_for_received(matches),
+        }),
         "salvage" => Ok(Command::Salvage),
         _ => Err(WordsFault::Usage),
     }

@@ -69,7 +69,7 @@ fn carry_out<R: Source, W: Sink>(
         Command::List(part) => list(alloc, part, input, out),
         Command::Rows(part) => rows(alloc, part, input, out),
         Command::Convert(options) => write_conversion(alloc, *options, input, out),
-        Command::Check => write_report(alloc, input, out),
+        Command::Check { received } => write_report(alloc, *received, input, out),
         Command::Salvage => salvage(alloc, input, out),
         Command::Version => {
             version(out)?;

@@ -5,7 +5,7 @@ use kit_std::prelude::Vec;
 
 use crate::Place;
 use fax_bits::Memory;
-use fax_files::{Cause, Chain, Directory, PageForm, Strips, Tiff};
+use fax_files::{Cause, Chain, Directory, PageForm, Received, Strips, Tiff};
 use fax_page::{NotesFault, NotesReader, StripNotes};
 use kit_std::alloc::Global;
 
@@ -25,6 +25,9 @@ pub enum NoteKind {
     NotT4Choice,
     /// A directory whose entries do not ascend by their tags (TIFF 6.0, section 2).
     EntriesOutOfOrder,
+    /// A page of which the receiver says that rows were bad, with what it counted (RFC 2306,
+    /// BadFaxLines, CleanFaxData and ConsecutiveBadFaxLines). `check` has no such note.
+    BadFaxLines(Received),
 }
 
 impl NoteKind {
@@ -37,10 +40,11 @@ impl NoteKind {
             NoteKind::DataAfterEnd => "DataAfterEnd",
             NoteKind::NotT4Choice => "NotT4Choice",
             NoteKind::EntriesOutOfOrder => "EntriesOutOfOrder",
+            NoteKind::BadFaxLines(_counts) => "BadFaxLines",
         }
     }
 
-    /// The note's number, 1 to 5.
+    /// The note's number, 1 to 6.
     // ensures { result ≡ (number_and_name self).0 }
     pub fn number(self) -> u8 {
         match self {
@@ -49,6 +53,7 @@ impl NoteKind {
             NoteKind::DataAfterEnd => 3,
             NoteKind::NotT4Choice => 4,
             NoteKind::EntriesOutOfOrder => 5,
+            NoteKind::BadFaxLines(_counts) => 6,
         }
     }
 }
@@ -67,7 +72,7 @@ pub struct Note {
 
 /// What was found in a file up to its first fault.
 pub struct Report {
-    /// The notes by page: first the one on its directory, then those on its strips in their order.
+    /// The notes by page: first those on its directory, then those on its strips in their order.
     /// A page that is refused and a strip that is not whole have none, and nothing after a fault
     /// has.
     pub notes: Vec<Note>,
@@ -156,9 +161,9 @@ fn read_to(before: u32, fault: NotesFault) -> Result<PageRead, Memory> {
 // requires limits { IsPageForm form.now }
 // requires count { strips.now.count ≡ form.now.strips }
 // requires here { Code.IsDirectoryOfPage strips.now.directory page }
-// ensures { IfOk result (Code.IsRestChecked strips.now.directory.file
-//     (Code.before_strip form.now page 0)
-//     page notes.old.items notes.new.items) }
+// ensures { IfOk result (λ read. (with_received : Bool) → Code.IsRestChecked with_received
+//     strips.now.directory.file (Code.before_strip form.now page 0) page
+//     notes.old.items notes.new.items read) }
 fn check_strips(
     alloc: Global,
     page: u32,
@@ -189,12 +194,46 @@ fn check_strips(
     })
 }
 
+/// Whether a number is there, and above 0.
+// ensures { result ≡ Spec.is_above_zero number }
+fn is_above_zero(number: Option<u32>) -> bool {
+    match number {
+        Some(number) => 0 < number,
+        None => false,
+    }
+}
+
+/// Whether the receiver of a page says that rows of it were bad.
+// ensures { result ≡ Spec.has_bad_rows counts }
+fn has_bad_rows(counts: Received) -> bool {
+    is_above_zero(counts.bad_rows) || is_above_zero(counts.clean)
+}
+
+/// Adds the notes on a page's directory, and among them what its receiver counted, where that is
+/// asked for.
+// ensures { OnOk result (notes.new.items ≡ notes.old.items
+//     ++ Spec.notes_on_directory with_received directory.now.endian directory.now.file
+//     directory.now.offset page) }
+fn note_directory(
+    with_received: bool,
+    page: u32,
+    directory: &Directory,
+    notes: &mut Vec<Note>,
+) -> Result<(), Memory> {
+    let out_of_order = !directory.in_order();
+    note_if(notes, out_of_order, page, None, NoteKind::EntriesOutOfOrder)?;
+    let counts = directory.received();
+    let bad = with_received && has_bad_rows(counts);
+    note_if(notes, bad, page, None, NoteKind::BadFaxLines(counts))
+}
+
 /// Reads a page and adds the notes on it, up to its first fault. A page that is refused has none.
 // requires { Code.IsDirectoryOfPage directory.now page }
-// ensures { IfOk result (Code.IsRestChecked directory.now.file (Code.before_page page) page
-//     notes.old.items notes.new.items) }
+// ensures { IfOk result (Code.IsRestChecked with_received directory.now.file
+//     (Code.before_page page) page notes.old.items notes.new.items) }
 fn check_page(
     alloc: Global,
+    with_received: bool,
     page: u32,
     directory: &Directory,
     notes: &mut Vec<Note>,
@@ -208,15 +247,14 @@ fn check_page(
             });
         }
     };
-    let out_of_order = !directory.in_order();
-    note_if(notes, out_of_order, page, None, NoteKind::EntriesOutOfOrder)?;
+    note_directory(with_received, page, directory, notes)?;
     check_strips(alloc, page, &form, &strips, notes)
 }
 
-/// The report on a file with a good header.
+/// The report on a file with a good header, with what receivers counted or without.
 // requires { header tiff.file ≡ Ok tiff.head }
-// ensures { IfOk result (Spec.IsReport tiff.entry.file) }
-fn check_pages(alloc: Global, tiff: Tiff) -> Result<Report, Memory> {
+// ensures { IfOk result (Spec.IsReport with_received tiff.entry.file) }
+fn check_pages(alloc: Global, with_received: bool, tiff: Tiff) -> Result<Report, Memory> {
     // It does not go by a walk, which returns rows and not their bits. What it counts are the items
     // of the same definition (`AreItems`).
     let mut chain = Chain::new(tiff);
@@ -237,7 +275,7 @@ fn check_pages(alloc: Global, tiff: Tiff) -> Result<Report, Memory> {
                 return Ok(report);
             }
         };
-        let read = check_page(alloc, page, &directory, &mut report.notes)?;
+        let read = check_page(alloc, with_received, page, &directory, &mut report.notes)?;
         report.rows += u64::from(read.rows);
         if let Some(cause) = read.fault {
             let row = read.rows;
@@ -247,15 +285,11 @@ fn check_pages(alloc: Global, tiff: Tiff) -> Result<Report, Memory> {
     }
 }
 
-/// Reads a file from any bytes up to its first fault, and reports on it.
-///
-/// # Errors
-///
-/// `Memory` where a growth was refused.
-// ensures { IfOk result (Spec.IsReport file.now) }
-pub fn check(alloc: Global, file: &[u8]) -> Result<Report, Memory> {
+/// The report on any bytes, with what receivers counted or without.
+// ensures { IfOk result (Spec.IsReport with_received file.now) }
+fn check_file(alloc: Global, with_received: bool, file: &[u8]) -> Result<Report, Memory> {
     match Tiff::read_header(file) {
-        Ok(tiff) => check_pages(alloc, tiff),
+        Ok(tiff) => check_pages(alloc, with_received, tiff),
         Err(fault) => Ok(Report {
             notes: Vec::new(alloc),
             pages: 0,
@@ -263,4 +297,27 @@ pub fn check(alloc: Global, file: &[u8]) -> Result<Report, Memory> {
             fault: Some((Place { page: 0, row: 0 }, Cause::File(fault))),
         }),
     }
+}
+
+/// Reads a file from any bytes up to its first fault, and reports on it.
+///
+/// # Errors
+///
+/// `Memory` where a growth was refused.
+// ensures { IfOk result (Spec.IsReport false file.now) }
+pub fn check(alloc: Global, file: &[u8]) -> Result<Report, Memory> {
+    check_file(alloc, false, file)
+}
+
+/// The same as `check`, and notes each page of which the receiver says that rows were bad, after
+/// the note on the order of its entries (RFC 2306, BadFaxLines and CleanFaxData). Where a page has
+/// no such note its rows may still be other ones than were sent: a receiver need not write these
+/// fields.
+///
+/// # Errors
+///
+/// `Memory` where a growth was refused.
+// ensures { IfOk result (Spec.IsReport true file.now) }
+pub fn check_received(alloc: Global, file: &[u8]) -> Result<Report, Memory> {
+    check_file(alloc, true, file)
 }

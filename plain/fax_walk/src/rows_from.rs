@@ -56,7 +56,7 @@ impl<'a> RowsFrom<'a> {
         self.rows.place()
     }
 
-    /// The row that was found last.
+    /// The row of the last part, where that is `Found`.
     // ensures pels { result.now ≡ self.now.last }
     // ensures width { length result.now ≡ self.now.here.form.width }
     pub fn row(&self) -> &Row {

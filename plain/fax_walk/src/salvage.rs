@@ -22,10 +22,31 @@ pub struct LostRows {
     pub cause: Cause,
 }
 
+impl LostRows {
+    /// The stretch that ends before a row of a page, where there is one, with so many rows more,
+    /// which are lost for this cause.
+    // requires { Lost.CanGrowBy lost rows }
+    // ensures { result ≡ Lost.longer lost page row rows cause }
+    pub fn longer(lost: Option<LostRows>, page: u32, row: u32, rows: u32, cause: Cause) -> LostRows {
+        match lost {
+            Some(stretch) => LostRows {
+                rows: stretch.rows + rows,
+                ..stretch
+            },
+            None => LostRows {
+                page,
+                row,
+                rows,
+                cause,
+            },
+        }
+    }
+}
+
 /// What is returned of a damaged file.
 #[derive(Clone, Copy, Debug, PartialEq, Eq)]
 pub enum SalvageItem {
-    /// A row that is found; `Salvage::row` lends it.
+    /// A row that is found; `Salvage::row` lends it, up to the next call.
     Row(Place),
     /// Rows that are lost. A stretch ends where a row is found or the page ends.
     Lost(LostRows),
@@ -187,7 +208,8 @@ impl<'a> Salvage<'a> {
         self.whole
     }
 
-    /// The row that was found last, if a row of the page that is gone through was found.
+    /// The row of the last item, where that is one. After another item it may be another row of the
+    /// page that is read, and where no page is, there is none.
     // ensures { IsLentLast self.now.last result }
     pub fn row(&self) -> Option<&Row> {
         match &self.page {

@@ -6,29 +6,10 @@ use crate::open_page::{row_for_exchange, set_exchanged};
 use crate::salvage::{LostRows, SalvageItem};
 use crate::salvage_rows::{SalvageRows, SalvagedPart};
 use fax_bits::Memory;
-use fax_files::{Cause, PageForm, Strips};
+use fax_files::{PageForm, Strips};
 use fax_rows::Row;
 use kit_std::alloc::Global;
 use kit_std::marker::Model;
-
-/// The stretch of lost rows that ends before a row of a page, with so many rows more, which are
-/// lost for this cause.
-// requires { Spec.HasRoom lost rows }
-// ensures { result ≡ Spec.longer lost page row rows cause }
-fn longer(lost: Option<LostRows>, page: u32, row: u32, rows: u32, cause: Cause) -> LostRows {
-    match lost {
-        Some(stretch) => LostRows {
-            rows: stretch.rows + rows,
-            ..stretch
-        },
-        None => LostRows {
-            page,
-            row,
-            rows,
-            cause,
-        },
-    }
-}
 
 /// A page that is gone through. Contracts see its number, how far its rows are gone through, the
 /// rows that are lost before the next one, whether a row that is found waits to be returned, and
@@ -110,7 +91,7 @@ impl<'a> SalvagePage<'a> {
                     return Some(SalvageItem::Lost(stretch));
                 }
                 SalvagedPart::Lost { rows, cause } => {
-                    self.lost = Some(longer(self.lost, self.page, self.row, rows, cause));
+                    self.lost = Some(LostRows::longer(self.lost, self.page, self.row, rows, cause));
                     self.row += rows;
                 }
             }

@@ -52,22 +52,25 @@ pub record IsPlaceOn (file : List ℕ) (here : FilePage) (place : FaxPlace) (run
 abbrev pub EndsFound : List PageRow → Type 0
 EndsFound rows = (before : List PageRow) × (row : List Colour) × (rows ≡ before ++ Ok row ∷ [])
 
--- the last of these rows is found, and where the one before it is found too, one more stretch had
--- room after that
-abbrev pub StopsNoLater : List PageRow → ℕ → ℕ → Type 0
-StopsNoLater rows stretches room =
-    (before : List PageRow) × (row : List Colour) × (rows ≡ before ++ Ok row ∷ [])
-    × (EndsFound before → stretches < room)
+-- after these rows, which are left from row r of a page on and of which the last is found, one more
+-- row or one more stretch has no room
+pub record IsFullAfter (page r stride len room : ℕ) (rows : List PageRow) : Type 0 where
+  pub found : EndsFound rows
+  pub full : IsFull len (length (found_of rows) * stride) stride (length (lost_from page r rows))
+      room
 
--- why no more is written after these rows: there is no room for one more row or one more stretch,
--- for the first time after a row that is found; or no other row is left of the page, and that is
--- not so
-abbrev pub StopsAfter : List PageRow → List PageRow → ℕ → ℕ → ℕ → ℕ → ℕ → Stop → Type 0
-StopsAfter over rest len used stride stretches room Done =
-    StopsNoLater over stretches room × IsFull len used stride stretches room
-StopsAfter over rest len used stride stretches room (Ended EndOfPages) =
-    (rest ≡ []) × (EndsFound over → IsFull len used stride stretches room → ⊥)
-StopsAfter over rest len used stride stretches room stop = ⊥
+-- why no more is written after these rows: they are the first after which no more has room; or no
+-- other row is left of the page, and after none of them was that so
+abbrev pub StopsAfter : ℕ → ℕ → ℕ → ℕ → ℕ → List PageRow → List PageRow → Stop → Type 0
+StopsAfter page r stride len room over rest Done =
+    IsFullAfter page r stride len room over
+    × ((first others : List PageRow) → over ≡ first ++ others → others ≢ []
+    → IsFullAfter page r stride len room first → ⊥)
+StopsAfter page r stride len room over rest (Ended EndOfPages) =
+    (rest ≡ [])
+    × ((first others : List PageRow) → over ≡ first ++ others
+    → IsFullAfter page r stride len room first → ⊥)
+StopsAfter page r stride len room over rest stop = ⊥
 
 -- of these rows, which are left from row r of a page on, the first ones are written: those that are
 -- found one after another, each in so many bytes, and the stretches of those that are lost; nothing
@@ -82,8 +85,7 @@ pub record AreFirstWritten (page r stride : ℕ) (rows rest : List PageRow) (old
   pub written : new ≡ flat_map (padded_row stride) (found_of over)
       ++ drop (filled.count * stride) old
   pub lost_are : lost ≡ lost_from page r over ++ drop filled.used old_lost
-  pub stops : StopsAfter over rest (length old) (filled.count * stride) stride filled.used
-      (length old_lost) filled.stop
+  pub stops : StopsAfter page r stride (length old) (length old_lost) over rest filled.stop
 
 -- the place after the rows that were written, from which on this is left, and no run but its own is
 -- changed: a place of the page, or the one after its last row

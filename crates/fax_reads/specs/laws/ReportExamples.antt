@@ -1,7 +1,9 @@
 -- Worked files with what is reported of them. Each answer was worked out by T.4, by T.6 and by this
 -- project's profile, so a wrong definition is an example that does not hold.
-use Rattle.std.specs.Prelude.{◌≡◌, ◌↔◌, ℕ, List, [], ◌∷◌, ◌++◌, length, Option, Some, None}
+use Rattle.std.specs.Prelude.{◌≡◌, ◌↔◌, ℕ, true, false, List, [], ◌∷◌, ◌++◌, length, Option, Some}
+use Rattle.std.specs.Prelude.{None}
 use Rattle.fax_files.specs.declared.FileFault.TheVariants.{DirectoryLoop, StripOutside}
+use Rattle.fax_files.specs.declared.bad_rows.Received.{Received}
 use Rattle.fax_files.specs.Layout.{WrittenField}
 use Rattle.fax_walk.specs.declared.checking.Note.{Note}
 use Rattle.fax_walk.specs.declared.checking.NoteKind.{NoteKind}
@@ -17,7 +19,12 @@ use Rattle.fax_reads.specs.laws.Reports.{parts_of}
 
 -- a report is the one of this file where its parts are these, and no other is
 abbrev pub HasReport : List ℕ → ReportRead → Type 0
-HasReport file read = (report : Report) → IsReport file report ↔ (read ≡ parts_of report)
+HasReport file read = (report : Report) → IsReport false file report ↔ (read ≡ parts_of report)
+
+-- the same of a report with what receivers counted
+abbrev pub HasReportWithReceived : List ℕ → ReportRead → Type 0
+HasReportWithReceived file read =
+    (report : Report) → IsReport true file report ↔ (read ≡ parts_of report)
 
 -- one page of one row was read, and these are the notes
 abbrev pub one_row_report : List Note → ReportRead
@@ -41,6 +48,17 @@ mh bytes = worked_file (mh_fields bytes) bytes
 abbrev pub eight_white : List ℕ
 eight_white = 0x98 ∷ []
 
+-- that row in a page whose receiver counted so many bad rows, and says this of its data
+-- (RFC 2306, BadFaxLines and CleanFaxData)
+abbrev pub mh_received : ℕ → ℕ → List ℕ
+mh_received bad clean =
+    worked_file (with (short 273 110) (mh_fields eight_white) ++ short 326 bad ∷ short 327 clean
+    ∷ [])
+    eight_white
+
+abbrev pub bad_and_clean : ℕ → ℕ → Received
+bad_and_clean bad clean = record { bad_rows = Some bad; clean = Some clean; consecutive = None }
+
 pub record AreReportsRead : Type 0 where
   -- nothing is noted
   pub row_alone : HasReport (mh eight_white) (one_row_report [])
@@ -61,6 +79,13 @@ pub record AreReportsRead : Type 0 where
   -- horizontal mode in MMR where T.4 chooses vertical mode
   pub two_notes : HasReport (mmr (0x33 ∷ 0x0d ∷ 0xc0 ∷ []))
       (one_row_report (note (Some 0) Kind.NoEndOfBlock ++ note (Some 0) Kind.NotT4Choice))
+  -- N6, where it is asked for: a bad row in data that are not said to be clean, and none
+  pub bad_row : HasReportWithReceived (mh_received 1 1)
+      (one_row_report (note None (Kind.BadFaxLines (bad_and_clean 1 1))))
+  pub not_asked_for : HasReport (mh_received 1 1) (one_row_report [])
+  pub clean : HasReportWithReceived (mh_received 0 0) (one_row_report [])
+  pub data_not_clean : HasReportWithReceived (mh_received 0 2)
+      (one_row_report (note None (Kind.BadFaxLines (bad_and_clean 0 2))))
   -- faults
   pub loop : HasReport (page_before 8) (record {
     notes = note (Some 0) Kind.NoEndOfBlock;

@@ -1,6 +1,6 @@
 -- What is reported of a file is what a function reads of it. The function
 -- `reports_are_read_by_a_function` of the module `laws` proves it.
-use Rattle.std.specs.Prelude.{◌≡◌, ◌↔◌, ℕ, List}
+use Rattle.std.specs.Prelude.{◌≡◌, ◌↔◌, Bool, ℕ, List}
 use Rattle.fax_walk.specs.declared.checking.Report.{Report}
 use Rattle.fax_walk.specs.Report.{IsReport}
 use Rattle.fax_reads.specs.Reports.{ReportRead, read_report}
@@ -17,4 +17,5 @@ parts_of report = record {
 -- a report is the one of a file where its parts are those that the function reads
 abbrev pub ReportsAreReadByAFunction : Type 0
 ReportsAreReadByAFunction =
-    (file : List ℕ) (report : Report) → IsReport file report ↔ (read_report file ≡ parts_of report)
+    (with_received : Bool) (file : List ℕ) (report : Report)
+    → IsReport with_received file report ↔ (read_report with_received file ≡ parts_of report)

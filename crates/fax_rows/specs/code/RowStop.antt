@@ -20,8 +20,8 @@ IsStopOf choice faults (Stops.Fault fault) = faults fault
 
 -- something of these that is expected, or one of these stops
 abbrev pub IsLookupExit : {D : Type 0} → (RowStop → Type 0) → (D → Type 0) → LookupExit D → Type 0
-IsLookupExit stops dues (Unreads.NeedsTable needed) = dues needed
-IsLookupExit stops dues (Unreads.Stopped stop) = stops stop
+IsLookupExit stops needs (Unreads.NeedsTable needed) = needs needed
+IsLookupExit stops needs (Unreads.Stopped stop) = stops stop
 
 -- a fault of the step that the bits begin with
 abbrev pub IsStepStop : Bool → ChangingElements → List ℕ → CodingState → List Bool → RowStop

@@ -69,8 +69,8 @@ pub(super) struct TwoRuns {
 }
 
 /// Reads a run of the colour whose first pel is `from` and the run of the other one after it, each
-/// by a look-up. Else it returns the first run, where that is found. `CANONICAL` and `BATCHED` part
-/// the copies of several callers: each is written out in its one caller.
+/// by a look-up. Else it returns the first run, where that is found. `CANONICAL` and `BATCHED`
+/// change nothing here: they give each caller a copy of its own, which the compiler inlines.
 #[inline(always)]
 pub(super) fn run_by_run<const CANONICAL: bool, const BATCHED: bool>(
     source: &mut BitSource,
@@ -128,8 +128,7 @@ pub(super) fn two_runs<const CANONICAL: bool, const BATCHED: bool>(
 
 /// Reads the runs that `two_runs` does not find, by their tables: a run of the colour whose first
 /// pel is `from`, where it is not read, and the run of the other colour after it. With `CANONICAL`
-/// it
-/// stops where their codes are not seen to be T.4's choice.
+/// it stops where their codes may not be T.4's choice.
 pub(super) fn two_runs_by_table<const CANONICAL: bool>(
     source: &mut BitSource,
     colour: Colour,

@@ -54,6 +54,7 @@ pub record HasEntries (name : Text) (entries : List Row) : Type 0 where
   pub rows : bytes_eq name (codes "rows") ≡ true
       → HasNumber (codes "max") most_lines entries × HasFlag (codes "long") entries
   pub convert : bytes_eq name (codes "convert") ≡ true → HasOptions entries
+  pub check : bytes_eq name (codes "check") ≡ true → HasFlag (codes "received") entries
   pub known : (bytes_eq name (codes "list") || (bytes_eq name (codes "rows")
       || (bytes_eq name (codes "convert") || (bytes_eq name (codes "check")
       || bytes_eq name (codes "salvage"))))) ≡ true

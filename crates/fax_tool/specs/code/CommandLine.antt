@@ -58,6 +58,9 @@ convert_app = with_rule (with_rule (with_rule coding_app (number_rule (codes "st
 abbrev pub file_app : Text → App
 file_app name = with_rule (bare_app name) file_rule
 
+abbrev pub check_app : App
+check_app = with_rule (file_app (codes "check")) (flag_rule (codes "received"))
+
 -- the program with the commands that print a part of a file
 abbrev pub printers_app : App
 printers_app = with_subcommand (with_subcommand
@@ -71,4 +74,4 @@ printers_app = with_subcommand (with_subcommand
 -- the program: one of five commands
 abbrev pub faxpages_app : App
 faxpages_app = with_subcommand (with_subcommand (with_subcommand printers_app convert_app.top)
-    (file_app (codes "check")).top) (file_app (codes "salvage")).top
+    check_app.top) (file_app (codes "salvage")).top

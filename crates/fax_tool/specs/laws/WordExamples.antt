@@ -47,6 +47,8 @@ pub record AreSpellingsRead : Type 0 where
   pub strip : Gives (codes "convert -omh --strip 64") (number_in (codes "strip")) (Some 64)
   pub strip_joined : Gives (codes "convert -omh --strip=64") (number_in (codes "strip")) (Some 64)
   pub align : Gives (codes "convert --align -omh") (is_set (codes "align")) true
+  pub received : Gives (codes "check --received a.tif") (is_set (codes "received")) true
+  pub not_received : Gives (codes "check a.tif") (is_set (codes "received")) false
   pub file : Gives (codes "check a.tif") (text (codes "FILE")) (Some (codes "a.tif"))
   pub file_first : Gives (codes "list a.tif --max 3") (text (codes "FILE")) (Some (codes "a.tif"))
   pub file_after : Gives (codes "rows -- -x") (text (codes "FILE")) (Some (codes "-x"))
@@ -73,5 +75,6 @@ pub record AreNotTaken : Type 0 where
   pub k : GivesNothing (codes "convert -omr --k=1000001")
   pub order : GivesNothing (codes "convert -omr --order=3")
   pub long : GivesNothing (codes "list --long")
+  pub received : GivesNothing (codes "rows --received")
   pub flag_value : GivesNothing (codes "rows --long=true")
   pub no_target : Gives (codes "convert a") target_in None

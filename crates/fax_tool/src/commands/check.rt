@@ -1,6 +1,7 @@
 //! `check`: what is worth a note in a file.
 ghost use Rattle.std.specs.Prelude.{◌≡◌, ◌≤◌, ◌+◌, ◌++◌, IfErr, IfOk, OnOk, string_bytes};
 ghost use Rattle.arrayvec.specs.ArrayString.{array_string_len};
+ghost use Rattle.fax_walk.specs.Report.{IsReport};
 ghost use Rattle.fax_tool.specs.ReportText as Text;
 ghost use Rattle.fax_tool.specs.code.Outcome as Outcome;
 ghost use Rattle.fax_tool.specs.code.ReportParts as SparseBytes;
@@ -15,16 +16,16 @@ use crate::text::fault::{ErrorLine, row_fault_line};
 use crate::text::push_number;
 use arrayvec::ArrayString;
 use fax_bits::Memory;
-use fax_walk::{Note, Report};
+use fax_walk::{Note, NoteKind, Report, check, check_received};
 use itoa::Buffer;
 use std::alloc::Global;
 
 /// A line of the report, which is made without memory.
-type ReportLine = ArrayString<64>;
+type ReportLine = ArrayString<96>;
 
 /// Appends the number of a strip, where there is one.
 fn push_strip(line: &mut ReportLine, strip: Option<u32>)
-    requires { array_string_len line.old + 17 ≤ 64 }
+    requires { array_string_len line.old + 17 ≤ 96 }
     ensures text { line.new.bytes ≡ line.old.bytes ++ SparseBytes.and_strip strip }
     ensures len { array_string_len line.new ≤ array_string_len line.old + 17 }
 {
@@ -34,8 +35,33 @@ fn push_strip(line: &mut ReportLine, strip: Option<u32>)
     }
 }
 
+/// Appends a number, or a hyphen where there is none.
+fn push_count(line: &mut ReportLine, number: Option<u32>)
+    requires { array_string_len line.old + 11 ≤ 96 }
+    ensures text { line.new.bytes ≡ line.old.bytes ++ Text.and_count number }
+    ensures len { array_string_len line.new ≤ array_string_len line.old + 11 }
+{
+    match number {
+        Some(number) => push_number(line, number),
+        None => line.push_str(" -"),
+    }
+}
+
+/// Appends what the receiver of a page counted, where a note has it.
+fn push_counts(line: &mut ReportLine, kind: NoteKind)
+    requires { array_string_len line.old + 33 ≤ 96 }
+    ensures text { line.new.bytes ≡ line.old.bytes ++ Text.and_counts kind }
+    ensures len { array_string_len line.new ≤ array_string_len line.old + 33 }
+{
+    if let NoteKind::BadFaxLines(counts) = kind {
+        push_count(line, counts.bad_rows);
+        push_count(line, counts.consecutive);
+        push_count(line, counts.clean);
+    }
+}
+
 /// The line of a note: `note page P strip S`, or without a strip where it is on the page's
-/// directory, and the note's number and name.
+/// directory, the note's number and name, and what it counts.
 #[tactic(auto, unfolding(crate::specs::ReportText::note_line))]
 fn note_line(note: Note) -> ReportLine
     ensures { result.bytes ≡ Text.note_line note }
@@ -49,6 +75,7 @@ fn note_line(note: Note) -> ReportLine
     line.push_str(digits.format(note.kind.number()));
     line.push_str(" ");
     line.push_str(note.kind.name());
+    push_counts(&mut line, note.kind);
     line.push_str("\n");
     line
 }
@@ -94,25 +121,37 @@ fn fault_line(report: &Report) -> Option<ErrorLine>
     Some(row_fault_line(place.page, place.row, cause))
 }
 
+/// The report on a file, with what receivers counted or without.
+fn report_on(alloc: Global, received: bool, file: &[u8]) -> Result<Report, Memory>
+    ensures { IfOk result (IsReport received file.now) }
+{
+    if received {
+        check_received(alloc, file)
+    } else {
+        check(alloc, file)
+    }
+}
+
 /// Reads the input whole and writes what is worth a note in it, how many pages were read wholly,
 /// and how many rows.
 pub fn write_report<R: Source, W: Sink>(
     alloc: Global,
+    received: bool,
     input: &mut R,
     out: &mut W,
 ) -> Result<Option<ErrorLine>, Refusal>
     requires input_counts { R.counts input.old ≡ no_faults }
     requires taken { R.taken input.old ≡ 0 }
     requires counts { W.counts out.old ≡ no_faults }
-    ensures ok { IfOk result (IsDone Check
+    ensures ok { IfOk result (IsDone (Check received)
         (input_after (R.remaining input.old) (R.taken input.new) (R.counts input.new))
         (output_after (W.written out.old) (W.written out.new) (W.counts out.new))) }
-    ensures err { IfErr result (λ refusal. IsStopped Check refusal
+    ensures err { IfErr result (λ refusal. IsStopped (Check received) refusal
         (input_after (R.remaining input.old) (R.taken input.new) (R.counts input.new))
         (output_after (W.written out.old) (W.written out.new) (W.counts out.new))) }
 {
     let file = read_to_end(alloc, input)?;
-    let report = fax_walk::check(alloc, &file)?;
+    let report = report_on(alloc, received, &file)?;
     let text = report_text(alloc, &report)?;
     let mut interruptions = RetryCount::NONE;
     write_all(out, &mut interruptions, text.as_bytes())?;

@@ -3,7 +3,7 @@
 ghost use Rattle.std.specs.Prelude.{◌≡◌, ℕ, ◌+◌, ◌<◌, ◌≤◌, ◌++◌, length, take};
 ghost use Rattle.std.specs.Prelude.{IfSome, IsTrue};
 ghost use Rattle.fax_tool.specs.Text.{and_number};
-ghost use Rattle.fax_tool.specs.code.Remembered.{AreBelow, ArePlacesOf, IsMadeAt, IsPlaceOf};
+ghost use Rattle.fax_tool.specs.code.Remembered.{AreBelow, AreIndexesOf, IsMadeAt, IsIndexOf};
 ghost use Rattle.fax_tool.specs.code.Remembered.{IsText};
 
 use crate::text::output_buffer::write_bytes;
@@ -55,17 +55,17 @@ impl Model for NumberCache {
     ghost invariant = { λ texts. AreNumbers texts.ones × ArePairs texts.pairs };
 }
 
-/// The text at a place, if it is made.
+/// The text at an index, if it is made.
 #[inline(always)]
-fn made_at(texts: &[CachedText], place: usize) -> Option<CachedText>
-    requires { place < length texts.now }
-    ensures { IfSome result (IsMadeAt texts.now place) }
+fn made_at(texts: &[CachedText], index: usize) -> Option<CachedText>
+    requires { index < length texts.now }
+    ensures { IfSome result (IsMadeAt texts.now index) }
 {
-    let text = texts[place];
+    let text = texts[index];
     if text.len > 0 { Some(text) } else { None }
 }
 
-/// Writes a blank and a number at a place, and returns where they end.
+/// Writes a blank and a number at an offset, and returns where they end.
 #[inline(never)]
 fn write_any(bytes: &mut [u8], at: usize, number: u32) -> usize
     requires { at + length (and_number number) ≤ length bytes.old }
@@ -115,11 +115,11 @@ pub fn are_below(numbers: [u16; 8], limit: u16) -> bool
         == 0
 }
 
-/// The places of the texts of eight numbers below `PAIRED`, two by two.
+/// The indexes of the texts of eight numbers below `PAIRED`, two by two.
 #[inline(always)]
-pub fn pair_places(numbers: [u16; 8]) -> [u16; 4]
+pub fn pair_indexes(numbers: [u16; 8]) -> [u16; 4]
     requires { AreBelow 64 numbers }
-    ensures { ArePlacesOf numbers result }
+    ensures { AreIndexesOf numbers result }
 {
     let lanes = u16x8::from_array(numbers);
     let firsts = lanes.swizzle([0, 2, 4, 6]);
@@ -127,7 +127,7 @@ pub fn pair_places(numbers: [u16; 8]) -> [u16; 4]
     (firsts * u16x4::splat(PAIRED) + seconds).to_array()
 }
 
-/// Writes a text at a place, and returns where it ends. The bytes after it, up to eight from its
+/// Writes a text at an offset, and returns where it ends. The bytes after it, up to eight from its
 /// beginning on, are written over.
 #[inline(always)]
 fn put_short(bytes: &mut [u8], at: usize, text: CachedText) -> usize
@@ -151,7 +151,7 @@ impl NumberCache {
         }
     }
 
-    /// Writes a blank and a number below `NUMBERS` at a place, and returns where they end. Eight
+    /// Writes a blank and a number below `NUMBERS` at an offset, and returns where they end. Eight
     /// bytes from there on may be written over.
     #[inline(always)]
     pub fn write_cached(&mut self, bytes: &mut [u8], at: usize, number: u16) -> usize
@@ -162,16 +162,17 @@ impl NumberCache {
         ensures within { result ≤ at + 6 }
         ensures same_len { length bytes.new ≡ length bytes.old }
     {
-        let place = usize::from(number);
-        if let Some(text) = made_at(&self.ones, place) {
+        let index = usize::from(number);
+        if let Some(text) = made_at(&self.ones, index) {
             return put_short(bytes, at, text);
         }
         let text = number_text(u32::from(number));
-        self.ones[place] = text;
+        self.ones[index] = text;
         put_short(bytes, at, text)
     }
 
-    /// Writes a blank and a number at a place, and returns where they end. Eleven bytes from there
+    /// Writes a blank and a number at an offset, and returns where they end. Eleven bytes from
+    /// there
     /// on may be written over.
     #[inline(always)]
     pub fn write_number(&mut self, bytes: &mut [u8], at: usize, number: u32) -> usize
@@ -187,24 +188,24 @@ impl NumberCache {
         self.write_cached(bytes, at, number as u16)
     }
 
-    /// Writes two numbers below `PAIRED` at a place, each after a blank, and returns where they
-    /// end: those whose text stands at this place among the texts of two numbers. Eight bytes from
+    /// Writes two numbers below `PAIRED` at an offset, each after a blank, and returns where they
+    /// end: those whose text stands at this index among the texts of two numbers. Eight bytes from
     /// there on may be written over.
     #[inline(always)]
-    pub fn write_pair(&mut self, bytes: &mut [u8], at: usize, place: u16) -> usize
-        requires place { place < 4096 }
+    pub fn write_pair(&mut self, bytes: &mut [u8], at: usize, index: u16) -> usize
+        requires index { index < 4096 }
         requires room { at + 8 ≤ length bytes.old }
-        ensures written { (first second : ℕ) → IsPlaceOf first second place
+        ensures written { (first second : ℕ) → IsIndexOf first second index
             → take result bytes.new
             ≡ take at bytes.old ++ (and_number first ++ and_number second) }
         ensures within { result ≤ at + 8 }
         ensures same_len { length bytes.new ≡ length bytes.old }
     {
-        if let Some(text) = made_at(&self.pairs, usize::from(place)) {
+        if let Some(text) = made_at(&self.pairs, usize::from(index)) {
             return put_short(bytes, at, text);
         }
-        let text = pair_text(u32::from(place / PAIRED), u32::from(place % PAIRED));
-        self.pairs[usize::from(place)] = text;
+        let text = pair_text(u32::from(index / PAIRED), u32::from(index % PAIRED));
+        self.pairs[usize::from(index)] = text;
         put_short(bytes, at, text)
     }
 }

@@ -5,7 +5,7 @@ ghost use Rattle.fax_rows.specs.Rows.{runs_of};
 ghost use Rattle.fax_tool.specs.Text.{and_number, row_line_of};
 ghost use Rattle.fax_tool.specs.code.Remembered.{AreBelow};
 
-use crate::text::number_cache::{NUMBERS, NumberCache, PAIRED, are_below, pair_places};
+use crate::text::number_cache::{NUMBERS, NumberCache, PAIRED, are_below, pair_indexes};
 use crate::text::output_buffer::{OutputBuffer, make_room};
 use fax_bits::Memory;
 use fax_rows::{LongestRuns, Row};
@@ -37,7 +37,8 @@ fn write_rest(
     end
 }
 
-/// Writes eight numbers below `PAIRED` at a place, each after a blank, and returns where they end.
+/// Writes eight numbers below `PAIRED` at an offset, each after a blank, and returns where they
+/// end.
 #[inline(always)]
 fn write_pairs(bytes: &mut [u8], at: usize, texts: &mut NumberCache, numbers: [u16; 8]) -> usize
     requires below { AreBelow 64 numbers }
@@ -46,14 +47,15 @@ fn write_pairs(bytes: &mut [u8], at: usize, texts: &mut NumberCache, numbers: [u
     ensures within { result ≤ at + 48 }
     ensures same_len { length bytes.new ≡ length bytes.old }
 {
-    let places = pair_places(numbers);
-    let two = texts.write_pair(bytes, at, places[0]);
-    let four = texts.write_pair(bytes, two, places[1]);
-    let six = texts.write_pair(bytes, four, places[2]);
-    texts.write_pair(bytes, six, places[3])
+    let indexes = pair_indexes(numbers);
+    let two = texts.write_pair(bytes, at, indexes[0]);
+    let four = texts.write_pair(bytes, two, indexes[1]);
+    let six = texts.write_pair(bytes, four, indexes[2]);
+    texts.write_pair(bytes, six, indexes[3])
 }
 
-/// Writes eight numbers below `NUMBERS` at a place, each after a blank, and returns where they end.
+/// Writes eight numbers below `NUMBERS` at an offset, each after a blank, and returns where they
+/// end.
 #[inline(always)]
 fn write_singly(bytes: &mut [u8], at: usize, texts: &mut NumberCache, numbers: [u16; 8]) -> usize
     requires below { AreBelow 2048 numbers }
@@ -72,7 +74,7 @@ fn write_singly(bytes: &mut [u8], at: usize, texts: &mut NumberCache, numbers: [
     texts.write_cached(bytes, seven, numbers[7])
 }
 
-/// Writes eight numbers at a place, each after a blank, and returns where they end: two by two,
+/// Writes eight numbers at an offset, each after a blank, and returns where they end: two by two,
 /// where all of them are short. `None` where one of them is long, and then nothing is written.
 #[inline(always)]
 fn write_eight(
@@ -98,7 +100,7 @@ fn write_eight(
     }
 }
 
-/// Writes the runs of a row at a place, each after a blank, and returns where they end.
+/// Writes the runs of a row at an offset, each after a blank, and returns where they end.
 fn write_runs(bytes: &mut [u8], at: usize, texts: &mut NumberCache, row: &Row) -> usize
     requires { at + 6 * length (runs_of row.now) + 16 ≤ length bytes.old }
     ensures written { take result bytes.new ≡ take at bytes.old
@@ -118,7 +120,7 @@ fn write_runs(bytes: &mut [u8], at: usize, texts: &mut NumberCache, row: &Row) -
     write_rest(bytes, end, texts, runs)
 }
 
-/// Writes the line of a row at a place, and returns where it ends.
+/// Writes the line of a row at an offset, and returns where it ends.
 fn write_line(
     bytes: &mut [u8],
     at: usize,

@@ -1,5 +1,5 @@
 -- How a page is gone through, and what is returned of it.
-use Rattle.std.specs.Prelude.{◌≡◌, ℕ, ◌+◌, ◌-◌, ◌<◌, ◌≤◌, ◌^◌, Bool, true, false, if◌then◌else◌}
+use Rattle.std.specs.Prelude.{◌≡◌, ℕ, ◌+◌, ◌-◌, ◌<◌, ◌≤◌, Bool, true, false, if◌then◌else◌}
 use Rattle.std.specs.Prelude.{List, [], ◌∷◌, Option, Some, None, unwrap_or, ⊤}
 use Rattle.fax_rows.specs.Rows.{Colour}
 use Rattle.fax_files.specs.Page.{most_rows}
@@ -8,7 +8,7 @@ use Rattle.fax_files.specs.views.Tiff.{TiffDirectory}
 use Rattle.fax_walk.specs.declared.salvage.SalvageItem.{SalvageItem}
 use Rattle.fax_walk.specs.declared.salvage.SalvageItem.TheVariants.{Row}
 use Rattle.fax_walk.specs.declared.salvage.LostRows.{LostRows}
-use Rattle.fax_walk.specs.Pages.{Cause, PageForm}
+use Rattle.fax_walk.specs.Pages.{PageForm}
 use Rattle.fax_walk.specs.Items.{exchanged}
 use Rattle.fax_walk.specs.Salvaged.{PageRow, SalvagedItem, row_found, rows_lost}
 use Rattle.fax_walk.specs.Salvaged.{page_items}
@@ -30,16 +30,6 @@ pub record SalvagePageState : Type 0 where
 -- that
 abbrev pub shown_of : RowsState → Option (List Colour) → List Colour
 shown_of rows shown = unwrap_or shown rows.reader.reference
-
--- a stretch has room for so many rows more
-abbrev pub HasRoom : Option LostRows → ℕ → Type 0
-HasRoom None rows = ⊤
-HasRoom (Some stretch) rows = stretch.rows + rows < 2 ^ 32
-
--- the rows that are lost, with so many more
-abbrev pub longer : Option LostRows → ℕ → ℕ → ℕ → Cause → LostRows
-longer None page row rows cause = record { page = page; row = row; rows = rows; cause = cause }
-longer (Some stretch) page row rows cause = record stretch { rows = stretch.rows + rows }
 
 -- how many rows a stretch has, if there is one
 abbrev pub rows_of : Option LostRows → ℕ

@@ -1,7 +1,7 @@
 -- What is converted, and what is reported, has one answer, which the function `answers_are_one` of
 -- the module `laws` proves.
 -- A definition without a citation is this project's profile.
-use Rattle.std.specs.Prelude.{◌≡◌, ℕ, List}
+use Rattle.std.specs.Prelude.{◌≡◌, Bool, ℕ, List}
 use Rattle.fax_walk.specs.declared.checking.Report.{Report}
 use Rattle.fax_walk.specs.declared.options.ConvertFault.{ConvertFault}
 use Rattle.fax_walk.specs.declared.options.Options.{Options}
@@ -28,8 +28,9 @@ pub record SayTheSame (report other : Report) : Type 0 where
   pub rows : report.rows ≡ other.rows
   pub fault : report.fault ≡ other.fault
 
--- a file has one report
+-- a file has one report, with what receivers counted, and one without it
 abbrev pub FilesHaveOneReport : Type 0
 FilesHaveOneReport =
-    (file : List ℕ) (report other : Report)
-    → IsReport file report → IsReport file other → SayTheSame report other
+    (with_received : Bool) (file : List ℕ) (report other : Report)
+    → IsReport with_received file report → IsReport with_received file other
+    → SayTheSame report other

@@ -127,8 +127,8 @@ pub(super) fn pass<const CANONICAL: bool>(
 }
 
 /// Advances by a mode, after its code; where a1 is under b1 it reads more such modes too (T.4,
-/// section 4.2.1.3.3). Both runs of horizontal mode are expected. `BATCHED` parts the copies of
-/// several callers.
+/// section 4.2.1.3.3). Both runs of horizontal mode are expected. `BATCHED` changes nothing here:
+/// it gives each caller a copy of its own, which the compiler inlines.
 #[inline(always)]
 // requires inside { IsCodingStateInRow reference changes.old at }
 // ensures read { (b : List Bool) → Decodes modes b mode source.old.remaining
@@ -212,10 +212,10 @@ pub(super) fn read_by_look_ups<const CANONICAL: bool, const BATCHED: bool>(
     reference: ChangingElements,
     changes: &mut [u32],
 ) -> Result<usize, LookupExit<SlowPath>> {
-    // Nothing returns into this loop: whatever stops it leaves it for good, so that the row's
-    // width, its places and the bits ahead stay in registers. What it returns are the numbers that
-    // it keeps anyway: a0 with -1 for none, the index after the last place, and that of b1, by
-    // which a0's colour is known.
+    // What stops this loop leaves it for good, so the compiler keeps the row's width, its changes
+    // and the next bits in registers. The loop returns only numbers that it keeps anyway: a0, or -1
+    // where there is none; the index after the last change; and the index of b1, which gives a0's
+    // colour.
     let mut ahead = source.fork();
     let mut at = CodingState::BEGINNING;
     while at.position.first_pel() < reference.width {

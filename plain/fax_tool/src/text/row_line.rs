@@ -1,7 +1,7 @@
 // Made by tools/plain-rust of crates/fax_tool/src/text/row_line.rt: change that.
 //! The line of a row.
 
-use crate::text::number_cache::{NUMBERS, NumberCache, PAIRED, are_below, pair_places};
+use crate::text::number_cache::{NUMBERS, NumberCache, PAIRED, are_below, pair_indexes};
 use crate::text::output_buffer::{OutputBuffer, make_room};
 use fax_bits::Memory;
 use fax_rows::{LongestRuns, Row};
@@ -32,7 +32,8 @@ fn write_rest(
     end
 }
 
-/// Writes eight numbers below `PAIRED` at a place, each after a blank, and returns where they end.
+/// Writes eight numbers below `PAIRED` at an offset, each after a blank, and returns where they
+/// end.
 #[inline(always)]
 // requires below { AreBelow 64 numbers }
 // requires room { at + 64 ≤ length bytes.old }
@@ -40,14 +41,15 @@ fn write_rest(
 // ensures within { result ≤ at + 48 }
 // ensures same_len { length bytes.new ≡ length bytes.old }
 fn write_pairs(bytes: &mut [u8], at: usize, texts: &mut NumberCache, numbers: [u16; 8]) -> usize {
-    let places = pair_places(numbers);
-    let two = texts.write_pair(bytes, at, places[0]);
-    let four = texts.write_pair(bytes, two, places[1]);
-    let six = texts.write_pair(bytes, four, places[2]);
-    texts.write_pair(bytes, six, places[3])
+    let indexes = pair_indexes(numbers);
+    let two = texts.write_pair(bytes, at, indexes[0]);
+    let four = texts.write_pair(bytes, two, indexes[1]);
+    let six = texts.write_pair(bytes, four, indexes[2]);
+    texts.write_pair(bytes, six, indexes[3])
 }
 
-/// Writes eight numbers below `NUMBERS` at a place, each after a blank, and returns where they end.
+/// Writes eight numbers below `NUMBERS` at an offset, each after a blank, and returns where they
+/// end.
 #[inline(always)]
 // requires below { AreBelow 2048 numbers }
 // requires room { at + 64 ≤ length bytes.old }
@@ -65,7 +67,7 @@ fn write_singly(bytes: &mut [u8], at: usize, texts: &mut NumberCache, numbers: [
     texts.write_cached(bytes, seven, numbers[7])
 }
 
-/// Writes eight numbers at a place, each after a blank, and returns where they end: two by two,
+/// Writes eight numbers at an offset, each after a blank, and returns where they end: two by two,
 /// where all of them are short. `None` where one of them is long, and then nothing is written.
 #[inline(always)]
 // requires { at + 64 ≤ length bytes.old }
@@ -90,7 +92,7 @@ fn write_eight(
     }
 }
 
-/// Writes the runs of a row at a place, each after a blank, and returns where they end.
+/// Writes the runs of a row at an offset, each after a blank, and returns where they end.
 // requires { at + 6 * length (runs_of row.now) + 16 ≤ length bytes.old }
 // ensures written { take result bytes.new ≡ take at bytes.old
 //     ++ flat_map and_number (runs_of row.now) }
@@ -109,7 +111,7 @@ fn write_runs(bytes: &mut [u8], at: usize, texts: &mut NumberCache, row: &Row) -
     write_rest(bytes, end, texts, runs)
 }
 
-/// Writes the line of a row at a place, and returns where it ends.
+/// Writes the line of a row at an offset, and returns where it ends.
 // requires { at + (42 + 6 * length (runs_of row.now)) ≤ length bytes.old }
 // ensures written { take result bytes.new
 //     ≡ take at bytes.old ++ row_line_of place.page place.row (runs_of row.now) }

@@ -4,7 +4,7 @@ use crate::files::fault_name;
 use crate::table::WrongLine;
 use crate::{text, words};
 use fax_walk::{
-    check, convert, ConvertFault, Cursor, ImageConversion, LongCursor, Options, Pages, Report,
+    check, check_received, convert, ConvertFault, Cursor, ImageConversion, LongCursor, NoteKind, Options, Pages, Report,
     Target, Walk, WalkFault,
 };
 use kit_std::alloc::Global;
@@ -25,7 +25,8 @@ pub fn answer(words: &[&str]) -> Result<Option<String>, WrongLine> {
         ["cursor", text] => cursor(text)?,
         ["cursor_text", page, row] => cursor_text(page, row)?,
         ["long_cursor", text] => long_cursor(text)?,
-        ["check", file] => checked(file)?,
+        ["check", file] => report_text(&check(Global, &words::bytes(file)?)?)?,
+        ["check_received", file] => report_text(&check_received(Global, &words::bytes(file)?)?)?,
         ["convert", target, order, k, strip, aligned, bytes] => {
             let options = options(target, order, k, strip, aligned)?;
             converted(&words::bytes(bytes)?, &options)?
@@ -178,17 +179,16 @@ fn report_text(report: &Report) -> Result<String, WrongLine> {
         let number = note.kind.number();
         let name = note.kind.name();
         text.push_str(&format!(" {}:{:?}:{number}:{name}", note.page, note.strip));
+        if let NoteKind::BadFaxLines(counts) = note.kind {
+            let numbers = [counts.bad_rows, counts.clean, counts.consecutive];
+            text.push_str(&format!(":{numbers:?}").replace(", ", ","));
+        }
     }
     if let Some((place, cause)) = report.fault {
         let name = fault_name(cause);
         text.push_str(&format!(" fault {}:{}:{name}", place.page, place.row));
     }
     Ok(text)
-}
-
-fn checked(file: &str) -> Result<String, WrongLine> {
-    let file = words::bytes(file)?;
-    report_text(&check(Global, &file)?)
 }
 
 fn target(word: &str) -> Result<Target, WrongLine> {

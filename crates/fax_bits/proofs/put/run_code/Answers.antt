@@ -20,8 +20,8 @@ pub returns-clause-bits : goal.returns-clause-bits
 returns-clause-bits c =
     let table = run_table c.args.colour in
     rw (c.of.ensures, c.from.ensures, c.from-2.ensures)
-    (sym (bits_at-found table c.args.place c.run_entry-entry.result c.run_entry-entry.ensures.found)
-    ∙ bits_at-run_table c.args.colour c.args.place c.requires)
+    (sym (bits_at-found table c.args.index c.run_entry-entry.result c.run_entry-entry.ensures.found)
+    ∙ bits_at-run_table c.args.colour c.args.index c.requires)
 
 pub returns-clause-short : goal.returns-clause-short
 returns-clause-short c =

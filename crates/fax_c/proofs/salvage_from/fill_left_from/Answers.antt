@@ -29,7 +29,8 @@ loop-remaining-preserved c =
     let width = rw c.row.ensures.pels at c.row.ensures.width in
     one_more c.loop-remaining.invariant c.next_found-ahead.ensures c.loop-remaining.auto.lost
     (omega (arith, room.1, c.loop-remaining.auto.lost)) c.put_stretch-stretches.result c.put_stretch-stretches.new.lost
-    c.put_stretch-stretches.ensures (not-false _ c.if-not-ahead.false) width
+    c.put_stretch-stretches.ensures (not-false _ c.if-not-ahead.false)
+    (rw (c.loop-remaining.auto.out, c.loop-remaining.auto.lost) at room) width
     c.requires.short c.loop-remaining.auto.out c.put_in_stride-used.result c.put_in_stride-used.new.out
     (rw c.row.ensures.pels at c.put_in_stride-used.ensures)
 

@@ -1,6 +1,6 @@
 use Rattle.std.proofs.Common.{◌≡◌, ◌+◌, ◌*◌, ◌-◌, ◌%◌, ◌^◌, ◌∙◌, sym, ap, get_or, arith}
 use Rattle.fax_rows.specs.Coded.{is_black}
-use Rattle.fax_rows.proofs.PackedWordLemmas.{word_begun, white_word, black_word, word_turned}
+use Rattle.fax_rows.proofs.PackedWordLemmas.{word_started, white_word, black_word, word_turned}
 use Rattle.fax_rows.proofs.PlacedRowLemmas.{end_within}
 use Rattle.fax_rows.proofs.packed.word_up_to.Goals as goal
 use Rattle.fax_rows.proofs.packed.word_up_to.Goals.{in-White, in-Black}
@@ -8,9 +8,9 @@ use Rattle.fax_rows.proofs.packed.word_up_to.Goals.{in-White, in-Black}
 pub loop-after-init : goal.loop-after-init
 loop-after-init c = record {
   word = elim c.match-colour_after.branch [
-    | in-White w ↦ rw w.word-is (word_begun c.args.row (64 * c.args.k) 0 c.args.passed c.requires.so_far
+    | in-White w ↦ rw w.word-is (word_started c.args.row (64 * c.args.k) 0 c.args.passed c.requires.so_far
         (λ i. white_word i ∙ ap is_black (sym w.in-White.is ∙ c.colour_after.ensures)))
-    | in-Black w ↦ rw w.word-is (word_begun c.args.row (64 * c.args.k) (2 ^ 64 - 1) c.args.passed c.requires.so_far
+    | in-Black w ↦ rw w.word-is (word_started c.args.row (64 * c.args.k) (2 ^ 64 - 1) c.args.passed c.requires.so_far
         (λ i. black_word i ∙ ap is_black (sym w.in-Black.is ∙ c.colour_after.ensures)))
   ];
   left_hand = omega arith;

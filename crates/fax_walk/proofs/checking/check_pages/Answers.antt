@@ -17,7 +17,7 @@ returns-in-Ok-None c =
     let proper =
     proper_end_at _ _ at.chain c.next.result at.invariant.before c.next.ensures.answer
     (c.in-Ok-None.is ∙ ap Ok c.in-Ok-None.field-0-is) in
-    last_report _ _ _ _ at.invariant.read proper (rw (c.from.ensures, c.yielded-page.ensures) (
+    last_report _ _ _ _ _ at.invariant.read proper (rw (c.from.ensures, c.yielded-page.ensures) (
       proper,
       at.invariant.none,
     ))
@@ -28,7 +28,7 @@ returns-in-Err c =
     let stops =
     fault_before_page _ _ at.chain c.next.result at.invariant.before c.next.ensures.answer
     (record { page = at.chain.yielded; row = 0 }) c.in-Err.fault c.in-Err.is (omega arith) in
-    last_report _ _ _ _ at.invariant.read stops (rw (c.from.ensures, c.yielded-page.ensures) (refl, refl))
+    last_report _ _ _ _ _ at.invariant.read stops (rw (c.from.ensures, c.yielded-page.ensures) (refl, refl))
 
 pub returns-in-Some : goal.returns-in-Some
 returns-in-Some c =
@@ -37,10 +37,12 @@ returns-in-Some c =
     let is = c.in-Ok-Some.is ∙ ap Ok c.in-Ok-Some.field-0-is in
     let file_is = same_file _ _ at.chain c.next.result before c.next.ensures.answer _ is
     ∙ before.file_is in
-    let read : IsRestChecked c.args.tiff.file (before_page at.chain.yielded) at.chain.yielded at.report.notes.items
+    let read : IsRestChecked c.args.with_received c.args.tiff.file (before_page at.chain.yielded) at.chain.yielded
+    at.report.notes.items
     c.check_page.new.notes.items
     c.in_ok-read.read = rw (file_is, c.yielded-page.ensures) at c.in_ok-read.ensures in
-    stop_report c.args.tiff.file at.chain.yielded at.report.rows at.report.notes.items c.in_ok-read.read c.in-Some.cause
+    stop_report c.args.with_received c.args.tiff.file at.chain.yielded at.report.rows at.report.notes.items
+    c.in_ok-read.read c.in-Some.cause
     _
     at.invariant.read read
     c.in-Some.is (ap (λ r. at.report.rows + r) c.from-in-loop-directory.ensures)
@@ -53,7 +55,8 @@ loop-directory-preserved c =
     let is = c.in-Ok-Some.is ∙ ap Ok c.in-Ok-Some.field-0-is in
     let file_is = same_file _ _ at.chain c.next.result before c.next.ensures.answer _ is
     ∙ before.file_is in
-    let read : IsRestChecked c.args.tiff.file (before_page at.chain.yielded) at.chain.yielded at.report.notes.items
+    let read : IsRestChecked c.args.with_received c.args.tiff.file (before_page at.chain.yielded) at.chain.yielded
+    at.report.notes.items
     c.check_page.new.notes.items
     c.in_ok-read.read = rw (file_is, c.yielded-page.ensures) at c.in_ok-read.ensures in
     let counted : c.next.new.self ≡ record at.chain { yielded = at.chain.yielded + 1 } = rw is at c.next.ensures.counted
@@ -64,7 +67,7 @@ loop-directory-preserved c =
       before = rw counted (rw counted at onwards);
       read =
           rw (counted, c.from-in-loop-directory.ensures)
-          (page_after c.args.tiff.file at.chain.yielded at.report.rows at.report.notes.items
+          (page_after c.args.with_received c.args.tiff.file at.chain.yielded at.report.rows at.report.notes.items
           c.check_page.new.notes.items
           c.in_ok-read.read
           at.invariant.read read c.in_default.is);
@@ -79,6 +82,7 @@ loop-directory-init c = record {
     yielded = refl;
     within = omega arith;
   });
-  read = rw c.new-chain.ensures (none_checked c.args.tiff.file c.new.result.items c.new.ensures.items);
+  read = rw c.new-chain.ensures (none_checked c.args.with_received c.args.tiff.file c.new.result.items
+      c.new.ensures.items);
   none = refl;
 }

@@ -7,7 +7,7 @@ use Rattle.fax_walk.proofs.checking.check_pages.Given as goal
 abbrev pub invariant-loop-directory : goal.invariant-loop-directory
 invariant-loop-directory l = record {
   before : IsChainBefore l.fn.tiff.file l.chain.yielded l.chain;
-  read : ArePagesChecked l.fn.tiff.file l.chain.yielded l.report.rows l.report.notes.items;
+  read : ArePagesChecked l.fn.with_received l.fn.tiff.file l.chain.yielded l.report.rows l.report.notes.items;
   none : l.report.fault ≡ None;
 }
 

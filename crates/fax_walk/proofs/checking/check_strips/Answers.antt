@@ -16,15 +16,16 @@ loop-s-init c = record {
     form_is = c.requires.form;
     here = c.requires.here;
   };
-  checked = none_before c.args.strips.now.directory c.args.form.now c.args.page c.args.notes.now.items;
+  checked = λ with_received. none_before with_received c.args.strips.now.directory c.args.form.now c.args.page
+      c.args.notes.now.items;
   same_width = c.in_ok-reader.ensures;
 }
 
 pub returns-in-Err : goal.returns-in-Err
 returns-in-Err c =
-    rw c.in-Err.ensures.fault
-    (strip_outside _ _ _ c.loop-s.invariant.on _ _ _ c.loop-s-test.true c.loop-s.invariant.checked
-    c.in-Err.ensures.outside)
+    rw c.in-Err.ensures.fault (λ with_received.
+    strip_outside _ _ _ c.loop-s.invariant.on with_received _ _ _ c.loop-s-test.true
+    (c.loop-s.invariant.checked with_received) c.in-Err.ensures.outside)
 
 pub read_to-requires : goal.read_to-requires
 read_to-requires c =
@@ -34,9 +35,9 @@ read_to-requires c =
 pub returns-in-Err-notes : goal.returns-in-Err-notes
 returns-in-Err-notes c =
     IfOk-weaker c.read_to.result _ _
-    (λ (read : PageRead) is.
-    strip_fault _ _ _ c.loop-s.invariant.on _ _ _ _ _ read c.loop-s-test.true c.loop-s.invariant.checked
-    c.in-Ok.ensures.bytes
+    (λ (read : PageRead) is with_received.
+    strip_fault _ _ _ c.loop-s.invariant.on with_received _ _ _ _ _ read c.loop-s-test.true
+    (c.loop-s.invariant.checked with_received) c.in-Ok.ensures.bytes
     (rw c.strip_form.ensures.exact at c.in-Err-notes.ensures.err) is)
     c.read_to.ensures
 
@@ -48,12 +49,13 @@ loop-s-preserved c =
     c.in-Ok-notes.ensures.ok in
     record {
       on = c.loop-s.invariant.on;
-      checked =
-          strip_after _ _ _ c.loop-s.invariant.on _ _ _ _ c.in-Ok.bytes.now c.in-Ok-notes.found c.loop-s-test.true
-          c.loop-s.invariant.checked c.in-Ok.ensures.bytes noted_so
+      checked = λ with_received.
+          strip_after _ _ _ c.loop-s.invariant.on with_received _ _ _ _ c.in-Ok.bytes.now c.in-Ok-notes.found
+          c.loop-s-test.true (c.loop-s.invariant.checked with_received) c.in-Ok.ensures.bytes noted_so
           c.in_ok-note_strip-in-Ok-notes.ensures;
       same_width = c.in-Ok-notes.ensures.same_width ∙ c.loop-s.invariant.same_width;
     }
 
 pub returns : goal.returns
-returns c = all_read _ _ _ c.loop-s.invariant.on _ _ _ (omega arith) c.loop-s.invariant.checked
+returns c = λ with_received.
+    all_read _ _ _ c.loop-s.invariant.on with_received _ _ _ (omega arith) (c.loop-s.invariant.checked with_received)

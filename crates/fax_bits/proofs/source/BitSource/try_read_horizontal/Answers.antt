@@ -1,10 +1,10 @@
 use Rattle.std.proofs.Common.{inl, arith}
-use Rattle.fax_bits.proofs.AheadLemmas.{begun_short, looked_up}
+use Rattle.fax_bits.proofs.AheadLemmas.{fits_in_number, looked_up}
 use Rattle.fax_bits.proofs.LookUpLemmas.{horizontal_pair_taken}
 use Rattle.fax_bits.proofs.source.BitSource.try_read_horizontal.Goals as goal
 
 pub after-self-inside-requires : goal.after-self-inside-requires
-after-self-inside-requires c = grind (arith, begun_short)
+after-self-inside-requires c = grind (arith, fits_in_number)
 
 pub returns : goal.returns
 returns c =

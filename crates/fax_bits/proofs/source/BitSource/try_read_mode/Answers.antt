@@ -5,7 +5,7 @@ use Rattle.fax_bits.proofs.LookUpLemmas.{begins_more, code_begins, code_taken}
 use Rattle.std.proofs.Common.{◌/◌, ◌^◌, inl, refl, arith}
 use Rattle.fax_bits.specs.Bits.{code_bits}
 use Rattle.fax_bits.specs.code.TableLaws.{modes_has_short_codes}
-use Rattle.fax_bits.proofs.AheadLemmas.{after_ahead, begun_short, looked_up, one_looked_up}
+use Rattle.fax_bits.proofs.AheadLemmas.{after_ahead, fits_in_number, looked_up, one_looked_up}
 use Rattle.fax_bits.proofs.source.BitSource.try_read_mode.Goals as goal
 
 pub invariant_of-self : goal.invariant_of-self
@@ -35,7 +35,7 @@ after-self-inside-requires-2 g c =
     let origin = begins_more _ c.number.result c.in_ok-len.len c.in_ok-len.mode
     (code_begins modes (code_bits 13 (c.number.result / 2 ^ 19)) c.in_ok-len.len c.in_ok-len.mode modes_has_short_codes
     c.in_ok-len.ensures) in
-    let short = begun_short 32 c.number.result origin in
+    let short = fits_in_number 32 c.number.result origin in
     record { loaded = omega (arith, short, c.in_ok-self-inside.ensures.many); short = omega (arith, short) }
 
 pub returns : goal.returns

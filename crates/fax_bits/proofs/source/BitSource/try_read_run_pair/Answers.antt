@@ -1,6 +1,6 @@
 use Rattle.std.proofs.Common.{◌/◌, ◌^◌, inl, arith}
 use Rattle.fax_bits.specs.Bits.{code_bits}
-use Rattle.fax_bits.proofs.AheadLemmas.{begun_short, looked_up}
+use Rattle.fax_bits.proofs.AheadLemmas.{fits_in_number, looked_up}
 use Rattle.fax_bits.proofs.LookUpLemmas.{begins_more, pair_begins, pair_taken}
 use Rattle.fax_bits.proofs.source.BitSource.try_read_run_pair.Goals as goal
 
@@ -8,7 +8,7 @@ pub after-self-inside-requires : goal.after-self-inside-requires
 after-self-inside-requires c =
     let origin = begins_more _ c.number.result c.in_ok-len.len c.in_ok-len.pair
     (pair_begins (code_bits 13 (c.number.result / 2 ^ 19)) c.in_ok-len.len c.in_ok-len.pair c.in_ok-len.ensures) in
-    let short = begun_short 32 c.number.result origin in
+    let short = fits_in_number 32 c.number.result origin in
     record { loaded = omega (arith, short, c.in_ok-self-inside.ensures.many); short = omega (arith, short) }
 
 pub returns : goal.returns

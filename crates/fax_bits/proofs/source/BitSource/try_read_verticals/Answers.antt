@@ -1,5 +1,5 @@
 use Rattle.std.proofs.Common.{inl, arith}
-use Rattle.fax_bits.proofs.AheadLemmas.{begun_short, looked_up}
+use Rattle.fax_bits.proofs.AheadLemmas.{fits_in_number, looked_up}
 use Rattle.fax_bits.proofs.LookUpLemmas.{begins_more}
 use Rattle.fax_bits.proofs.VerticalLemmas.{verticals_taken}
 use Rattle.fax_bits.proofs.source.BitSource.try_read_verticals.Goals as goal
@@ -7,7 +7,7 @@ use Rattle.fax_bits.proofs.source.BitSource.try_read_verticals.Goals as goal
 pub after-self-inside-requires : goal.after-self-inside-requires
 after-self-inside-requires c =
     let origin = begins_more _ c.number.result c.in_ok-len.len c.in_ok-len.found c.in_ok-len.ensures in
-    let short = begun_short 32 c.number.result origin in
+    let short = fits_in_number 32 c.number.result origin in
     record { loaded = omega (arith, short, c.in_ok-self-inside.ensures.many); short = omega (arith, short) }
 
 pub returns : goal.returns

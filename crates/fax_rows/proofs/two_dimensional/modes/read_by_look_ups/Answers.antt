@@ -1,7 +1,7 @@
 use Rattle.std.proofs.Common.{length, length-append, refl, ap, arith}
 use Rattle.std.proofs.lemmas.Int.{ints}
 use Rattle.fax_rows.proofs.RowStopLemmas.{row_stop}
-use Rattle.fax_rows.proofs.GoesOnLemmas.{due_leaves, goes_on_leaves, leaves_more}
+use Rattle.fax_rows.proofs.GoesOnLemmas.{needed_leaves, goes_on_leaves, leaves_more}
 use Rattle.fax_rows.proofs.ReadRowLemmas.{nothing_so_far, read_further, row_done}
 use Rattle.fax_rows.proofs.two_dimensional.modes.read_by_look_ups.Goals as goal
 
@@ -32,7 +32,7 @@ returns-in-Err-NeedsTable-clause-stop g c =
     let needed = rw c.in-Err-NeedsTable.field-0-is at c.in-Err-NeedsTable.ensures.stop in
     let rest = c.next_steps.new.source.remaining in
     let remaining = leaves_more (goes_on_leaves c.loop-ahead.invariant.read.steps)
-    (due_leaves c.loop-ahead.at.position.colour c.loop-ahead.ahead.remaining c.in-Err-NeedsTable.needed rest
+    (needed_leaves c.loop-ahead.at.position.colour c.loop-ahead.ahead.remaining c.in-Err-NeedsTable.needed rest
     needed.1.read) in
     rw needed.0 (record {
       at = c.loop-ahead.at;

@@ -1,12 +1,12 @@
 use Rattle.std.proofs.Common.{rules}
 use Rattle.clap.proofs.TakesLemmas.{passed_up}
-use Rattle.fax_tool.proofs.CommandLemmas.{rows_unbegun, rows_unread}
+use Rattle.fax_tool.proofs.CommandLemmas.{rows_not_started, rows_unread}
 use Rattle.fax_tool.proofs.commands.print.rows.Goals as goal
 
 pub returns-in_err-origin-clause-err : goal.returns-in_err-origin-clause-err
 returns-in_err-origin-clause-err g c =
     passed_up c.from_residual.result _ _ c.from_residual.ensures.1 (rw (c.requires.input_counts, c.requires.taken)
-    (rows_unbegun c.beginnings_have_one_tail.ensures c.args.part.now _ (g.R.Source.remaining c.args.input.now) _ _ _
+    (rows_not_started c.beginnings_have_one_tail.ensures c.args.part.now _ (g.R.Source.remaining c.args.input.now) _ _ _
     (search rules)
     c.in_err-origin.ensures.err))
 

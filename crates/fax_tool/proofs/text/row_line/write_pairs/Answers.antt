@@ -4,7 +4,7 @@ use Rattle.fax_tool.proofs.text.row_line.write_pairs.Goals as goal
 
 pub returns-clause-written : goal.returns-clause-written
 returns-clause-written c =
-    let place_of = c.pair_places-places.ensures in
+    let place_of = c.pair_indexes-indexes.ensures in
     eight_written (take c.args.at c.args.bytes.now) _ _ _ _ c.args.numbers (omega arith)
     (c.write_pair-two.ensures.written _ _ (place_of 0 (omega arith)))
     (c.write_pair-four.ensures.written _ _ (place_of 1 (omega arith)))

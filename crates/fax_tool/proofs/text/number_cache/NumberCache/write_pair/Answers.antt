@@ -14,6 +14,6 @@ returns-in-Some-clause-within c =
 pub invariant_of-self : goal.invariant_of-self
 invariant_of-self c = (
   c.self.invariant.0,
-  rw c.from-4.ensures (pairs_put c.self.inside.pairs c.args.place c.pair_text-text.result c.self.invariant.1
+  rw c.from-4.ensures (pairs_put c.self.inside.pairs c.args.index c.pair_text-text.result c.self.invariant.1
       (rw (c.from-2.ensures, c.from-3.ensures) at c.pair_text-text.ensures)),
 )

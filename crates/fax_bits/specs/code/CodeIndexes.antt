@@ -8,14 +8,14 @@ abbrev pub begins : {M : Type 0} → CodeEntry M → ℕ → ℕ → Bool
 begins entry width number =
     nat_le entry.len width && (number / 2 ^ (width - entry.len) == entry.code)
 
--- a place of a table, by whether its first entry is meant
-abbrev pub place_after : Bool → ℕ → ℕ
-place_after true place = zero
-place_after false place = suc place
+-- an index of a table, by whether its first entry is meant
+abbrev pub index_after : Bool → ℕ → ℕ
+index_after true index = zero
+index_after false index = suc index
 
--- the place of the first entry whose code begins the bits, or the length of the table where there
+-- the index of the first entry whose code begins the bits, or the length of the table where there
 -- is none
-abbrev pub place_of : {M : Type 0} → List (CodeEntry M) → ℕ → ℕ → ℕ
-place_of [] width number = zero
-place_of (entry ∷ table) width number =
-    place_after (begins entry width number) (place_of table width number)
+abbrev pub index_of : {M : Type 0} → List (CodeEntry M) → ℕ → ℕ → ℕ
+index_of [] width number = zero
+index_of (entry ∷ table) width number =
+    index_after (begins entry width number) (index_of table width number)

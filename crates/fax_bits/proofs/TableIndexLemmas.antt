@@ -1,4 +1,4 @@
--- A code that is found by its place in a table.
+-- A code that is found by its index in a table.
 use Rattle.std.proofs.lemmas.Grind.{common_steps}
 use Rattle.std.proofs.Common.{◌≡◌, ℕ, zero, suc, ◌+◌, ◌-◌, ◌*◌, ◌/◌, ◌%◌, ◌^◌, ◌<◌, ◌≤◌, List, [], ◌∷◌, ◌++◌, length}
 use Rattle.std.proofs.Common.{get_or, Bool, true}
@@ -11,7 +11,7 @@ use Rattle.fax_bits.specs.declared.codes.CodeEntry.{CodeEntry}
 use Rattle.fax_bits.specs.Bits.{code_bits, StartsWith}
 use Rattle.fax_bits.specs.Codes.{bits_of, HasNoCode}
 use Rattle.fax_bits.specs.views.Codes.{HasCodeAhead, HasShortCodes, IsPrefixFree}
-use Rattle.fax_bits.specs.code.CodePlaces.{begins, place_after, place_of}
+use Rattle.fax_bits.specs.code.CodeIndexes.{begins, index_after, index_of}
 use Rattle.fax_bits.proofs.CodeBitsLemmas.{code_bits-add, length-code_bits}
 use Rattle.fax_bits.proofs.FindLemmas.{code_ahead, ahead_is_short, ahead_is_first}
 use Rattle.fax_bits.proofs.PrefixLemmas.{takes_one}
@@ -27,41 +27,41 @@ pub begins_from : {M : Type 0} (entry : CodeEntry M) (width number : ℕ) → en
     → begins entry width number ≡ true
 begins_from entry width number short is = grind (arith, common_steps)
 
--- the place of the first entry, by what it is
+-- the index of the first entry, by what it is
 first_index : {M : Type 0} (first : CodeEntry M) (table : List (CodeEntry M)) (width number : ℕ)
     → begins first width number ≡ true
-    → place_of (first ∷ table) width number ≡ zero
-first_index first table width number h = ap (λ b. place_after b (place_of table width number)) h
+    → index_of (first ∷ table) width number ≡ zero
+first_index first table width number h = ap (λ b. index_after b (index_of table width number)) h
 
-later_place : {M : Type 0} (first : CodeEntry M) (table : List (CodeEntry M)) (width number : ℕ)
+later_index : {M : Type 0} (first : CodeEntry M) (table : List (CodeEntry M)) (width number : ℕ)
     → begins first width number ≡ false
-    → place_of (first ∷ table) width number ≡ suc (place_of table width number)
-later_place first table width number h = ap (λ b. place_after b (place_of table width number)) h
+    → index_of (first ∷ table) width number ≡ suc (index_of table width number)
+later_index first table width number h = ap (λ b. index_after b (index_of table width number)) h
 
--- at the place of a table stands an entry that begins the bits
-place_begins : {M : Type 0} (table : List (CodeEntry M)) (width number : ℕ) (entry : CodeEntry M)
-    → slice_get table (place_of table width number) ≡ Some entry → begins entry width number ≡ true
-place_begins [] width number entry at = cc
-place_begins (first ∷ table) width number entry at = grind (arith, place_begins table width number entry)
+-- at the index of a table stands an entry that begins the bits
+index_begins : {M : Type 0} (table : List (CodeEntry M)) (width number : ℕ) (entry : CodeEntry M)
+    → slice_get table (index_of table width number) ≡ Some entry → begins entry width number ≡ true
+index_begins [] width number entry at = cc
+index_begins (first ∷ table) width number entry at = grind (arith, index_begins table width number entry)
 
--- a code that begins thirteen bits, by its place
-pub found_at_place : {M : Type 0} (table : List (CodeEntry M)) (number place : ℕ) (entry : CodeEntry M)
-    → place ≡ place_of table 13 number
-    → slice_get table place ≡ Some entry → HasCodeAhead table (code_bits 13 number) entry.len entry.meaning
-found_at_place table number place entry place_is found =
-    let is = begins_true entry 13 number (place_begins table 13 number entry
-    (ap (slice_get table) (sym place_is) ∙ found)) in
+-- a code that begins thirteen bits, by its index
+pub found_at_index : {M : Type 0} (table : List (CodeEntry M)) (number index : ℕ) (entry : CodeEntry M)
+    → index ≡ index_of table 13 number
+    → slice_get table index ≡ Some entry → HasCodeAhead table (code_bits 13 number) entry.len entry.meaning
+found_at_index table number index entry index_is found =
+    let is = begins_true entry 13 number (index_begins table 13 number entry
+    (ap (slice_get table) (sym index_is) ∙ found)) in
     record {
       entry = entry;
-      listed = listed table place entry found;
+      listed = listed table index entry found;
       length = refl;
       means = refl;
       ahead = code_ahead 13 number entry.len entry.code is.0 is.1;
     }
 
--- where the place is past the table, no entry begins the bits
+-- where the index is past the table, no entry begins the bits
 past_begins_none : {M : Type 0} (table : List (CodeEntry M)) (width number : ℕ)
-    → length table ≤ place_of table width number
+    → length table ≤ index_of table width number
     → (k : ℕ) (entry : CodeEntry M) → k < length table → get_or table k entry ≡ entry → begins entry width number ≡ true
     → ⊥
 past_begins_none [] width number past k entry within is origin = absurd (omega arith)
@@ -70,7 +70,7 @@ past_begins_none (first ∷ table) width number past (suc k) entry within is ori
     elim (cases_Bool (begins first width number)) [
       | inl here ↦ omega (arith, past, first_index first table width number here)
       | inr other ↦
-          past_begins_none table width number (omega (arith, past, later_place first table width number other)) k entry
+          past_begins_none table width number (omega (arith, past, later_index first table width number other)) k entry
           (omega arith) is
           origin
     ]
@@ -102,17 +102,17 @@ same_begins : {M : Type 0} (entry : CodeEntry M) (short low number : ℕ) → sh
 same_begins entry short low number few above test = grind (arith, common_steps, first_of_first, long_is_low)
 
 -- the first `short` bits of 13 tell as much, where they are no beginning of a long code
-pub short_place : {M : Type 0} (table : List (CodeEntry M)) (short low number : ℕ) → short ≤ 13
+pub short_index : {M : Type 0} (table : List (CodeEntry M)) (short low number : ℕ) → short ≤ 13
     → long_codes_test short low table ≡ true
-    → low ≤ number → place_of table short (number / 2 ^ (13 - short)) ≡ place_of table 13 number
-short_place [] short low number few test above = refl
-short_place (first ∷ table) short low number few test above =
+    → low ≤ number → index_of table short (number / 2 ^ (13 - short)) ≡ index_of table 13 number
+short_index [] short low number few test above = refl
+short_index (first ∷ table) short low number few test above =
     let parts = and_parts (nat_le first.len 13 && (nat_le first.len short || nat_le
     ((first.code + 1) * 2 ^ (13 - first.len)) low))
     (long_codes_test short low table) test in
-    ap (λ b. place_after b (place_of table short (number / 2 ^ (13 - short))))
+    ap (λ b. index_after b (index_of table short (number / 2 ^ (13 - short))))
     (same_begins first short low number few above parts.0)
-    ∙ ap (place_after (begins first 13 number)) (short_place table short low number few parts.1 above)
+    ∙ ap (index_after (begins first 13 number)) (short_index table short low number few parts.1 above)
 
 -- a number of n bits, with zeros after it up to 13 bits
 pub aligned-first : (n window len : ℕ) → len ≤ n → n ≤ 13 → window * 2 ^ (13 - n) / 2 ^ (13 - len)
@@ -151,9 +151,9 @@ aligned_ahead n window len code few ahead = (
 )
 
 module _ {M : Type 0} (table : List (CodeEntry M)) (short : HasShortCodes table) (free : IsPrefixFree table)
-    (n window place : ℕ)
+    (n window index : ℕ)
     (few : n ≤ 13)
-    (fits : window < 2 ^ n) (place_is : place ≡ place_of table 13 (window * 2 ^ (13 - n))) where
+    (fits : window < 2 ^ n) (index_is : index ≡ index_of table 13 (window * 2 ^ (13 - n))) where
   -- an entry that begins n bits
   ahead_begins : (entry : CodeEntry M) → Contains table entry → StartsWith (code_bits n window) (bits_of entry)
       → begins entry 13 (window * 2 ^ (13 - n)) ≡ true
@@ -163,36 +163,36 @@ module _ {M : Type 0} (table : List (CodeEntry M)) (short : HasShortCodes table)
       (aligned-first n window entry.len within few
       ∙ ahead_is_first n window entry.len entry.code within fits (short entry here).2 ahead)
 
-  place_past : length table ≤ place → HasNoCode table (code_bits n window)
-  place_past past entry here ahead = grind (arith, past_begins_none, ahead_begins)
+  index_past : length table ≤ index → HasNoCode table (code_bits n window)
+  index_past past entry here ahead = grind (arith, past_begins_none, ahead_begins)
 
-  -- the entry at the place
-  at_place : (entry : CodeEntry M) → slice_get table place ≡ Some entry
+  -- the entry at the index
+  at_index : (entry : CodeEntry M) → slice_get table index ≡ Some entry
       → (entry.len ≤ 13) × (window * 2 ^ (13 - n) / 2 ^ (13 - entry.len) ≡ entry.code)
-  at_place entry found =
-      begins_true entry 13 (window * 2 ^ (13 - n)) (place_begins table 13 (window * 2 ^ (13 - n)) entry
-      (ap (slice_get table) (sym place_is) ∙ found))
+  at_index entry found =
+      begins_true entry 13 (window * 2 ^ (13 - n)) (index_begins table 13 (window * 2 ^ (13 - n)) entry
+      (ap (slice_get table) (sym index_is) ∙ found))
 
-  place_found : (entry : CodeEntry M) → slice_get table place ≡ Some entry → entry.len ≤ n
+  index_found : (entry : CodeEntry M) → slice_get table index ≡ Some entry → entry.len ≤ n
       → HasCodeAhead table (code_bits n window) entry.len entry.meaning
-  place_found entry found within = record {
+  index_found entry found within = record {
     entry = entry;
-    listed = listed table place entry found;
+    listed = listed table index entry found;
     length = refl;
     means = refl;
     ahead = code_ahead n window entry.len entry.code within
-        (sym (aligned-first n window entry.len within few) ∙ (at_place entry found).1);
+        (sym (aligned-first n window entry.len within few) ∙ (at_index entry found).1);
   }
 
-  -- the code at the place is longer than n bits: it and a shorter one would begin the same 13 bits
-  place_long : (entry : CodeEntry M) → slice_get table place ≡ Some entry → n < entry.len
+  -- the code at the index is longer than n bits: it and a shorter one would begin the same 13 bits
+  index_long : (entry : CodeEntry M) → slice_get table index ≡ Some entry → n < entry.len
       → HasNoCode table (code_bits n window)
-  place_long entry found long other here ahead =
+  index_long entry found long other here ahead =
       let number = window * 2 ^ (13 - n) in
-      let whole = code_ahead 13 number entry.len entry.code (at_place entry found).0 (at_place entry found).1 in
+      let whole = code_ahead 13 number entry.len entry.code (at_index entry found).0 (at_index entry found).1 in
       let shorter = aligned_ahead n window other.len other.code few ahead in
       let one = takes_one table free (code_bits 13 number) entry.meaning other.meaning whole.0 shorter.0
-      (record { entry = entry; listed = listed table place entry found; means = refl; spelled = whole.1 })
+      (record { entry = entry; listed = listed table index entry found; means = refl; spelled = whole.1 })
       (record { entry = other; listed = here; means = refl; spelled = shorter.1 }) in
       omega (
         arith,
@@ -207,28 +207,28 @@ module _ {M : Type 0} (table : List (CodeEntry M)) (short : HasShortCodes table)
         length-code_bits other.len other.code,
       )
 
--- what `find` answers by the entry at the place: a code of at most n bits, or none
-pub found_by_place : {M : Type 0} (table : List (CodeEntry M)) → HasShortCodes table → IsPrefixFree table
-    → (n window place : ℕ) → n ≤ 13
-    → window < 2 ^ n → place ≡ place_of table 13 (window * 2 ^ (13 - n) % 2 ^ 32) → (entry : CodeEntry M)
-    → slice_get table place ≡ Some entry → (found : Option (ℕ × M))
+-- what `find` answers by the entry at the index: a code of at most n bits, or none
+pub found_by_index : {M : Type 0} (table : List (CodeEntry M)) → HasShortCodes table → IsPrefixFree table
+    → (n window index : ℕ) → n ≤ 13
+    → window < 2 ^ n → index ≡ index_of table 13 (window * 2 ^ (13 - n) % 2 ^ 32) → (entry : CodeEntry M)
+    → slice_get table index ≡ Some entry → (found : Option (ℕ × M))
     → MatchOption found (n < entry.len) (λ found. (entry.len ≤ n) × (found.0 ≡ entry.len) × (found.1 ≡ entry.meaning))
     → MatchOption found (HasNoCode table (code_bits n window))
     (λ found. HasCodeAhead table (code_bits n window) found.0 found.1)
-found_by_place table short free n window place few fits place_is entry at None long =
-    place_long table short free n window place few fits (place_is
-    ∙ ap (place_of table 13) (aligned_is n window few fits)) entry at long
-found_by_place table short free n window place few fits place_is entry at (Some found) is =
-    grind (arith, place_found, aligned_is)
+found_by_index table short free n window index few fits index_is entry at None long =
+    index_long table short free n window index few fits (index_is
+    ∙ ap (index_of table 13) (aligned_is n window few fits)) entry at long
+found_by_index table short free n window index few fits index_is entry at (Some found) is =
+    grind (arith, index_found, aligned_is)
 
--- where the place is past the table, it returns none
-pub none_by_place : {M : Type 0} (table : List (CodeEntry M)) → HasShortCodes table → IsPrefixFree table
-    → (n window place : ℕ) → n ≤ 13
-    → window < 2 ^ n → place ≡ place_of table 13 (window * 2 ^ (13 - n) % 2 ^ 32) → length table ≤ place
+-- where the index is past the table, it returns none
+pub none_by_index : {M : Type 0} (table : List (CodeEntry M)) → HasShortCodes table → IsPrefixFree table
+    → (n window index : ℕ) → n ≤ 13
+    → window < 2 ^ n → index ≡ index_of table 13 (window * 2 ^ (13 - n) % 2 ^ 32) → length table ≤ index
     → HasNoCode table (code_bits n window)
-none_by_place table short free n window place few fits place_is past =
-    place_past table short free n window place few fits (place_is
-    ∙ ap (place_of table 13) (aligned_is n window few fits)) past
+none_by_index table short free n window index few fits index_is past =
+    index_past table short free n window index few fits (index_is
+    ∙ ap (index_of table 13) (aligned_is n window few fits)) past
 
 -- thirteen bits: the window with zeros after it
 pub aligned_fits : (n window : ℕ) → n ≤ 13 → window < 2 ^ n → window * 2 ^ (13 - n) % 2 ^ 32 < 2 ^ 13
