@@ -50,24 +50,24 @@ def promised() -> Iterator[tuple[str, str]]:
 
 
 def rows_of_tests() -> Iterator[tuple[str, str, str]]:
-    """The table of tests/README.md: promise, file, text."""
-    for line in read("tests", "README.md").splitlines():
-        row = re.fullmatch(r"\| (.+) \| (tests/\S+) \| (.+) \|", line)
+    """The lines of tested.txt: promise, file, text."""
+    for line in read("tests", "documents", "tested.txt").splitlines():
+        row = re.fullmatch(r"([^#].*) \| (\S+/\S+) \| (.+)", line)
         if row:
             yield row[1], row[2], row[3]
 
 
 def claims() -> Iterator[tuple[str, bool]]:
-    """Each name that was promised is there, and tests/README.md tells where the promises are tested."""
+    """Each name that was promised is there, and tested.txt says where the promises are tested."""
     now, rows = there(), list(rows_of_tests())
     for kind, name in promised():
         yield f"{kind} {name} is there, as was promised", name in now[kind]
         if kind in ("command", "option", "script"):
             word = f"`{name.split(' ')[-1]}`"
-            yield f"tests/README.md has {word}", any(word in promise for promise, _, _ in rows)
+            yield f"tests/documents/tested.txt has {word}", any(word in promise for promise, _, _ in rows)
     lines = {name for kind, name in promised() if kind == "struct"}
     yield f"each struct of the header is promised, as it lies: {sorted(now['struct'] - lines)}", now["struct"] == lines
-    yield "tests/README.md has a table", len(rows) > 40
+    yield f"tests/documents/tested.txt has lines: {len(rows)}", len(rows) > 150
     for promise, file, text in rows:
         there_is = os.path.isfile(os.path.join(TOP, file))
         yield f"{promise}: {file} has '{text}'", there_is and text in read(*file.split("/"))
