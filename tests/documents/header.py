@@ -1,4 +1,4 @@
-"""The header of the library, as the manual page faxpages(3) has it: its calls, and its types and numbers."""
+"""The header of the library, as the manual page faxpages(3) has it: its calls, and what its statuses mean."""
 
 from __future__ import annotations
 
@@ -29,19 +29,19 @@ def types() -> list[str]:
 
 
 def call_lines(call: str) -> Iterator[str]:
-    """A call in the synopsis: what is declared is bold, and the names of what it takes are italic. No line ends within
-    a parameter."""
+    """A call in the synopsis. No line ends within a parameter."""
     joined = re.sub(r"(?<!,) ", "\0", call)
     for line in textwrap.wrap(joined, WIDTH, subsequent_indent="    ", break_long_words=False):
-        parts = re.split(r"\b(?!void\b)(\w+)(?=[,)])", line.replace("\0", " "))
-        yield ".BI " + " ".join(f'"{part}"' for part in parts)
+        yield line.replace("\0", " ")
 
 
 def synopsis() -> str:
     """The calls as the manual page has them."""
-    return "\n.PP\n".join("\n".join(call_lines(call)) for call in calls()) + "\n"
+    return "\n.sp\n".join("\n".join(call_lines(call)) for call in calls()) + "\n"
 
 
-def types_shown() -> str:
-    """The types and numbers as the manual page has them."""
-    return "\n.PP\n".join(piece.replace("\\", "\\e") for piece in types()) + "\n"
+def statuses() -> str:
+    """What each status means, as the manual page has it."""
+    body = next(piece for piece in types() if piece.startswith("enum faxpages_status {"))
+    found = re.findall(r"(FAXPAGES_\w+) = \d+,?\s+/\*(.*?)\*/", body, re.S)
+    return "".join(f".TP\n.B {name}\n{' '.join(re.sub(r'(?m)^ *[*]', '', text).split())}\n" for name, text in found)
