@@ -1,9 +1,14 @@
-"""The public calls of a crate, with their contracts, as they stand in its sources."""
+#!/usr/bin/env python3
+"""Prints the public calls of a crate, with their contracts, as its sources have them:
+
+    tests/documents/contracts.py CRATE
+"""
 
 from __future__ import annotations
 
 import os
 import re
+import sys
 from typing import Iterator
 
 TOP = os.path.dirname(os.path.dirname(os.path.dirname(os.path.abspath(__file__))))
@@ -82,3 +87,7 @@ def quoted(crate: str) -> str:
         last = owner
         parts.append("\n".join(lines))
     return "\n".join(parts)
+
+
+if __name__ == "__main__":
+    print(quoted(sys.argv[1]))

@@ -38,5 +38,5 @@ def claims() -> Iterator[tuple[str, bool]]:
     links = LINK.findall(read(*DOCUMENT))
     yield f"docs/PROOFS.md has links to lines: {len(links)}", len(links) > 70
     for name, path, line in links:
-        yield (f"docs/PROOFS.md: {name} is declared in line {line} of {path}, or else tests/documents/run --write writes it",
-               line_of(name, path) == int(line) > 0)
+        said = f"docs/PROOFS.md: {name} is in line {line} of {path}, or else tests/documents/run --write writes it"
+        yield said, line_of(name, path) == int(line) > 0
