@@ -1,5 +1,5 @@
-"""The faults and notes of faxpages(1), which are those of docs/TROUBLESHOOTING.md: what each means, and of those that the
-machine or a reader makes what to do."""
+"""The faults and notes of faxpages(1), which are those of docs/TROUBLESHOOTING.md: what each means, and what to do about
+notes and about faults of the machine."""
 
 from __future__ import annotations
 
