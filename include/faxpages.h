@@ -16,7 +16,7 @@
    The calls use malloc, realloc, free, memcpy, memmove and memset, and nothing else of the system,
    and some 12 KB of stack. They run on x86-64 processors with SSE4.2 and POPCNT (x86-64-v2), and do
    not check for them: on an older one the process ends by SIGILL. If yours may be older, call
-   __builtin_cpu_supports("x86-64-v2") first.
+   __builtin_cpu_supports("x86-64-v2").
 
    A call looks at nothing before the place where it begins, except the header, the directories up
    to its page, and the rows above it in its strip. So the fault that it reports is the first from
