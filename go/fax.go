@@ -11,8 +11,8 @@
 //		fmt.Println(row.Page, row.Number, row.Runs())
 //	}
 //
-// Pages and rows are numbered from 0. What comes before an error is right; the error is the last that an iterator hands
-// out. Nothing is kept open, and a Fax may be read by many goroutines.
+// Pages and rows are numbered from 0. What comes before an error is right; an iterator returns the error last.
+// Nothing is kept open, and a Fax may be read by many goroutines.
 package faxpages
 
 /*
@@ -26,7 +26,7 @@ import (
 	"unsafe"
 )
 
-// Seq hands out items, and as its last one an error if there is one. It has the form of iter.Seq2[T, error].
+// Seq yields items, and as its last one an error if there is one. It has the form of iter.Seq2[T, error].
 type Seq[T any] func(yield func(T, error) bool)
 
 // Fax is a file of fax pages.
@@ -180,7 +180,7 @@ type place struct {
 	runs []C.uint32_t
 }
 
-// Reads all rows from a page and a row on: call hands out some, and put takes each, and answers whether it goes on.
+// Reads all rows from a page and a row on: call returns some, and put takes each, and says whether to continue.
 func read(page, row int, call func(*place, []C.struct_faxpages_row, *C.struct_faxpages_told) C.uint32_t,
 	put func(C.struct_faxpages_row) bool) error {
 	if page < 0 || row < 0 {

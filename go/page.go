@@ -69,15 +69,15 @@ type Stretch struct {
 	Fault       FaultNumber // of the first of them
 }
 
-// Salvaged is what is left of a page or of a strip: rows that are lost are white.
+// Salvaged is a salvaged page or strip: lost rows are white.
 type Salvaged struct {
 	Raster
 	Lost []Stretch
-	// Of a strip whose rows nobody counted: the fault with which they end, or 0.
+	// Of a strip of unknown height: the fault with which its rows end, or 0.
 	End FaultNumber
 }
 
-// A call for what is left, and its status.
+// A call that salvages, and its status.
 type salvage func(out *C.uint8_t, room, stride C.size_t, lost *C.struct_faxpages_lost, most C.size_t,
 	told *C.struct_faxpages_told) C.uint32_t
 
@@ -95,7 +95,7 @@ func salvaged(width, rows int, call salvage) (*Salvaged, *C.struct_faxpages_told
 	return made, &told, status
 }
 
-// Salvage is what is left of a page, however it is damaged. It takes memory for all rows that the form says.
+// Salvage returns the readable rows of a damaged page. It takes memory for all rows that the form says.
 func (f Fax) Salvage(page int) (*Salvaged, error) {
 	form, err := f.Form(page)
 	if err != nil {

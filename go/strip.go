@@ -6,7 +6,7 @@ import "C"
 // StripForm is the form of T.4 or T.6 data with no file around them.
 type StripForm struct {
 	Width  int
-	Rows   int // 0 where nobody counted them
+	Rows   int // 0 if the height is unknown
 	Coding Coding
 	Order  FillOrder // 0 is the highest bit first
 }
@@ -57,7 +57,7 @@ func Strip(data []byte, form StripForm) Seq[Row] {
 	}
 }
 
-// SalvageStrip is what is left of a strip, however it is damaged.
+// SalvageStrip returns the readable rows of a damaged strip.
 func SalvageStrip(data []byte, form StripForm) (*Salvaged, error) {
 	if !form.isValid() {
 		return nil, ErrOptions

@@ -10,9 +10,9 @@
                 print(row.number, row.runs())
 
 A file is read whole when it is opened, by its path, by its bytes or whatever lends them, or by a file object. Pages and
-rows are numbered from 0, and a Fax is a sequence of its pages. What is handed out before a fault is right; the fault
-itself is raised where what comes next is asked for, each kind as an exception of its own, with the page, the row, its
-name, the tag of the field at fault, and a sentence that says what it means:
+rows are numbered from 0, and a Fax is a sequence of its pages. Everything returned before a fault is right; the fault
+is raised when you ask for what comes next, each kind as its own exception, with the page, the row, its name, the tag of
+the field at fault, and a sentence that says what it means:
 
     try:
         rows = sum(1 for row in fax.rows())
@@ -21,22 +21,23 @@ name, the tag of the field at fault, and a sentence that says what it means:
     except faxpages.Fault as fault:
         print(fault.name)
 
-A page in one piece is bytes, a Raster that lends them, an array of numpy without a copy, or an image of Pillow; all
-else works without numpy and Pillow. A damaged page raises its fault, or with partial=True is what stands before it:
+A page in one piece is bytes, a Raster that lends them, an array of numpy without a copy, or an image of Pillow;
+everything else works without numpy and Pillow. A damaged page raises its fault, or with partial=True has the rows
+before it:
 
     page.packed(); page.raster(); page.array(); page.image()
     part = page.raster(partial=True)
     print(part.rows, "rows, and", part.lost, "are lost:", part.fault)
 
-What is left of it after that is found where rows stand between their EOLs, as `faxpages salvage` finds it; what is lost
-is white in the raster, grey in the image, and named:
+Rows after the fault are salvaged if they are between two EOLs, as by `faxpages salvage`; lost rows are white in the
+raster, grey in the image, and listed:
 
     left = page.salvaged()
     for stretch in left.lost:
         print("rows", stretch.first, "to", stretch.last, "are lost:", stretch.name)
     left.image().save("page.png")
 
-What the receiver of a page counted of bad rows stands in fields of their own, where it wrote them:
+The bad rows that the receiver of a page counted are in fields of the page, if it wrote them:
 
     if page.received.bad_rows:
         print(page.received.bad_rows, "rows of page", page.number, "were bad when it was received")
@@ -53,18 +54,17 @@ After faxpages.register() Pillow works as before, but a damaged fax in a TIFF fi
 A number that is out of range is a ValueError, and anything but a number, or a text, where one is needed is a TypeError.
 A number is whatever can be an index of a list, so True is 1.
 
-Threads may share a Fax, its pages, and all else that is handed out except iterators and a StripReader, and read at the
-same time: the library does not hold Python's lock. An iterator is for one thread: one that is shared may raise a
-ValueError, as Python's own do, and never harms memory. So let each thread go over pages, or rows, by an iterator of its
-own, or hand pages to threads:
+Threads may share everything that the module returns, except iterators and a StripReader, and read at the same time: the
+library does not hold Python's lock. An iterator is for one thread: a shared one may raise a ValueError, as Python's own
+do, and never harms memory. So give each thread its own iterator, or pass pages to threads:
 
     with concurrent.futures.ThreadPoolExecutor() as pool:
         counts = list(pool.map(count_black, fax))
 
-All that is handed out but these can be pickled and copied, faults too, and sent to other processes and back: what comes
-back is equal to what was sent. A Fax is pickled with all bytes of its file, whether it was opened by a path or by
-bytes, and a Page with its Fax: where these are many, send a path and the number of a page. In place of an iterator,
-send a Cursor. A process that has threads should start others by spawn or forkserver, not by fork.
+Everything else can be pickled and copied, faults too, and sent to other processes and back: what comes back is equal
+to what was sent. A Fax is pickled with all bytes of its file, whether it was opened by a path or by bytes, and a Page
+with its Fax: to save that, send a path and the number of a page. Instead of an iterator, send a Cursor. A process that
+has threads should start others by spawn or forkserver, not by fork.
 
 With files from strangers: a page takes memory for the rows that were read, whatever its form says, so check page.rows
 and page.width before you ask for it whole. check and convert read all rows of all pages.

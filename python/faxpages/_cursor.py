@@ -64,7 +64,7 @@ class Cursor:
 
     @property
     def page(self) -> int:
-        """The page of the row that is due.
+        """The page of the next row.
 
         >>> faxpages.Cursor.parse("1:3:7").page
         3
@@ -73,7 +73,7 @@ class Cursor:
 
     @property
     def row(self) -> int:
-        """The row that is due.
+        """The next row.
 
         >>> faxpages.Cursor.parse("1:3:7").row
         7

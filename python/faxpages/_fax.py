@@ -204,8 +204,8 @@ class Page:
         return image
 
     def salvaged(self) -> Salvaged:
-        """What is left of the page, however it is damaged: each row that stands between its EOLs, and each stretch of
-        rows that are lost, with the name of its fault. It takes memory for all rows that the form says.
+        """The readable rows of a damaged page, those between two EOLs, and each stretch of lost rows, with the name of
+        its fault. It takes memory for all rows that the form says.
 
         >>> [stretch.first for stretch in faxpages.open("samples/damaged-fourth-page.tif")[3].salvaged().lost]
         [5]
@@ -279,7 +279,7 @@ class Fax(Sequence[Page]):
         return type(self), (self._data,)
 
     def __bool__(self) -> bool:
-        """Always true: a fax has a page, or a fault where its first page is due. Nothing is read for this."""
+        """Always true: a fax has a page, or a fault in its place. Nothing is read for this."""
         return True
 
     def __len__(self) -> int:

@@ -1,5 +1,4 @@
-"""What is left of damaged pages and strips: the rows that stand between their EOLs, and the stretches of those that are
-lost."""
+"""The readable rows of damaged pages and strips, those between two EOLs, and the stretches of lost rows."""
 
 from __future__ import annotations
 
@@ -38,8 +37,8 @@ class Stretch(NamedTuple):
 
 @dataclass(frozen=True)
 class Salvaged:
-    """What is left of a page or of a strip: a raster of all its rows, where those that are lost are white, and the
-    stretches of these, from the top down. No row is made up, copied or guessed.
+    """A salvaged page or strip: a raster of all its rows, with lost ones white, and the stretches of lost rows, from
+    the top down. No row is invented, copied or guessed.
 
     >>> left = faxpages.open("samples/three-pages.tif").page(2).salvaged()
     >>> left.raster.packed, left.lost
@@ -48,8 +47,7 @@ class Salvaged:
 
     raster: Raster
     lost: Tuple[Stretch, ...]
-    # Of rows that nobody counted: whether an end mark stands after them, and the name of the fault with which they end,
-    # if they do not end well.
+    # At unknown height: whether an end mark follows the rows, and the name of the fault with which they end, if any.
     end_mark: bool = False
     fault: Optional[str] = None
 
@@ -90,7 +88,7 @@ class Salvaged:
 
 
 def salvage_page(data: bytes, page: int, rows: int, like: Raster) -> Salvaged:
-    """What is left of a page of a file, of which the form has so many rows, and is else like this raster."""
+    """Salvages a page of a file, whose form has so many rows and is otherwise like this raster."""
     return salvaged(
         like, rows,
         lambda *rooms: _c.library.faxpages_salvage(data, len(data), page, _c.Form(), *rooms))
@@ -108,7 +106,7 @@ def salvaged(like: Raster, rows: int, call: Any) -> Salvaged:
 
 
 def salvaged_uncounted(like: Raster, call: Any) -> Salvaged:
-    """The same of rows that nobody counted: a call with no room tells how many there are."""
+    """The same at unknown height: a call without room says how many rows there are."""
     left = _Left(like.stride, 0, call)
     if left.status == _c.NO_ROOM:
         left = _Left(like.stride, left.told.row, call)

@@ -1,4 +1,4 @@
-"""What is left of damaged pages, piece by piece: each row that is found, and each stretch of rows that are lost."""
+"""Salvages damaged pages piece by piece: each found row, and each stretch of lost rows."""
 
 from __future__ import annotations
 
@@ -15,7 +15,7 @@ _ROWS = 2048
 
 
 def salvaged_rows(data: bytes, page: int, width: int) -> Iterator[Union[Row, Stretch]]:
-    """What is left of a page of a file, which has rows of so many pels, in the order of its rows."""
+    """The found rows and lost stretches of a page of a file, with rows of so many pels, in order."""
     stride, first = (width + 7) // 8, 0
     place, runs, told = _c.Place(page, 0, 0, 0), (_c.U32 * _c.RUNS)(), _c.Told()
     out, lost = ctypes.create_string_buffer(_ROWS * stride), (_c.Lost * _ROWS)()

@@ -30,7 +30,7 @@ _DATA_ENDS, _TOO_MANY_ROWS = 101, 108
 
 
 def _form(width: SupportsIndex, rows: Optional[SupportsIndex], coding: str, order: SupportsIndex) -> _c.Strip:
-    """The form of a strip, with 0 rows if nobody counted them."""
+    """The form of a strip, with 0 rows if the height is unknown."""
     return _c.Strip(
         number_of("width", width, 1, MOST_WIDTH), 0 if rows is None else number_of("rows", rows, 1, MOST_ROWS),
         choice_of("coding", coding, CODINGS), number_of("order", order, 1, 2), 0)
@@ -115,13 +115,13 @@ def strip(data: ReadableBuffer, width: SupportsIndex = 1728, rows: Optional[Supp
 
     coding is "mh", "mr" or "mmr" (K 0, above 0, below 0 in a PDF); order is 1 if the highest bit of a byte is first,
     and 2 if the lowest is. If rows is None, there are up to 1,000,000 of them, which end at the end mark (EOFB, RTC), or
-    with the data, if nothing but zeros is left after a whole row: then check_strip tells which it is. Otherwise there
+    with the data, if only zeros remain after a whole row: check_strip says which it is. Otherwise there
     must be as many as it says. eols=False says that rows in "mh" have no EOL before
     them (EndOfLine false), and byte_align that each row begins on a byte boundary (EncodedByteAlign). If rows have
     EOLs, byte_align changes nothing: zeros before an EOL are fill, however many, and the row begins right after it.
     Rows in "mmr" that are aligned, and those without EOLs, are read one a call, which takes longer.
 
-    If the data are damaged the fault is raised, with page 0. With partial=True it is told in the raster, whose rows are
+    If the data are damaged the fault is raised, with page 0. With partial=True the raster reports it, whose rows are
     those before it; lost says how many are missing if rows is known.
 
     >>> raster = faxpages.strip(b"\\x80\\x08\\x00\\x80", width=8)
@@ -151,8 +151,8 @@ def strip(data: ReadableBuffer, width: SupportsIndex = 1728, rows: Optional[Supp
 
 def salvage_strip(data: ReadableBuffer, width: SupportsIndex = 1728, *, rows: Optional[SupportsIndex] = None,
                   coding: str = "mr", order: SupportsIndex = 1) -> Salvaged:
-    """What is left of T.4 or T.6 data that has no file around it. The words are those of strip. If nobody counted the
-    rows, they go up to an end mark, to the end of the data, or to a lost row after which no EOL is left, and the raster
+    """Salvages T.4 or T.6 data that has no file around it. The arguments are those of strip. If the height is unknown,
+    the rows go up to an end mark, to the end of the data, or to a lost row after which no EOL remains, and the raster
     has room for all of them: 3 MB of data can have 1,000,000 rows.
 
     >>> data = b"\\x00\\x19\\x80\\x0f\\x00\\x19\\x80"
@@ -177,11 +177,11 @@ def salvage_strip(data: ReadableBuffer, width: SupportsIndex = 1728, *, rows: Op
 class StripReader:
     """Reads T.4 or T.6 data that comes in pieces, as a server receives it. It is for one thread.
 
-    feed takes bytes; an iteration gives the rows that are whole by then and were not given before; close says that no
-    more bytes come. An iteration raises the fault of the row that is due. If that row is cut, an iteration before close
-    ends there, since more bytes may come; after close it raises DataEnds. A row of more than 4,096 bytes that come in
-    pieces of less than a 256th of it may be given so many bytes later, and so may the rows after it; where no such bytes
-    come, it is given after close. width, coding, order and rows are as for strip.
+    feed takes bytes; an iteration returns the rows that are complete by then and were not returned before; close says
+    that no more bytes come. An iteration raises the fault of the next row. If that row is cut, an iteration before
+    close ends there, since more bytes may come; after close it raises DataEnds. A row of more than 4,096 bytes that
+    come in pieces of less than a 256th of it may be returned so many bytes later, and so may the rows after it; without
+    such bytes it is returned after close. width, coding, order and rows are as for strip.
 
     >>> data = faxpages.encode_strip(faxpages.open("samples/three-mmr-rows.tif")[0], coding="mr", order=2)
     >>> reader, found = faxpages.StripReader(width=8, coding="mr", order=2), []

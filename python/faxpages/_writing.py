@@ -83,7 +83,7 @@ def encode(pages: Iterable[Writable], coding: str = "mmr", order: SupportsIndex 
     dpi is a number, or a pair: pels of a row and rows in an inch. Without it a page keeps its own resolution, and an
     image the one in its info; otherwise it is 204 by 196.
 
-    Pages are taken one by one, those of an iterator too: how many there are is told to each after the last. More than
+    Pages are taken one by one, from an iterator too; their number is written into each after the last. More than
     268,435,456 bytes or 65,535 pages are OutputTooLarge. A page that is damaged raises its fault.
 
     >>> fax = faxpages.open("samples/three-pages.tif")
