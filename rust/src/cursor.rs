@@ -1,10 +1,12 @@
 //! Where to go on.
 
-use crate::calls::{self, FaxPlace, RUNS};
-use crate::error::refused;
+use crate::inner::{self, Global, Items, LongFault, WalkStart};
 use crate::Error;
 use std::fmt;
 use std::str::FromStr;
+
+/// The most runs of a row.
+const MOST_RUNS: usize = 65_536;
 
 /// Where to go on: a page and a row, or a place inside a strip, after which no row is read again.
 ///
@@ -36,6 +38,10 @@ pub struct Cursor {
 
 impl Cursor {
     /// A row of a page, both from 0. The row after a page's last is the next page's first.
+    ///
+    /// ```
+    /// assert_eq!(faxpages::Cursor::new(1, 7).to_string(), "1:1:7");
+    /// ```
     #[must_use]
     pub const fn new(page: u32, row: u32) -> Self {
         Cursor { page, row, bits: 0, runs: Vec::new() }
@@ -47,71 +53,101 @@ impl Cursor {
     /// # Errors
     ///
     /// [`Error::NotACursor`] where there are more than 65,536 runs, which no row has.
+    ///
+    /// ```
+    /// assert_eq!(faxpages::Cursor::inside_strip(0, 2, 21, &[0, 8])?.to_string(), "2:0:2:21:0,8");
+    /// # Ok::<(), faxpages::Error>(())
+    /// ```
     pub fn inside_strip(page: u32, row: u32, bits: u32, runs: &[u32]) -> Result<Self, Error> {
-        if runs.len() > RUNS {
+        if runs.len() > MOST_RUNS {
             return Err(Error::NotACursor);
         }
         Ok(Cursor { page, row, bits: if runs.is_empty() { 0 } else { bits }, runs: runs.to_vec() })
     }
 
-    /// The page of the row that is due.
+    /// The page of the next row.
+    ///
+    /// ```
+    /// assert_eq!(faxpages::Cursor::new(1, 7).page(), 1);
+    /// ```
     #[must_use]
     pub const fn page(&self) -> u32 {
         self.page
     }
 
-    /// The row that is due.
+    /// The next row.
+    ///
+    /// ```
+    /// assert_eq!(faxpages::Cursor::new(1, 7).row(), 7);
+    /// ```
     #[must_use]
     pub const fn row(&self) -> u32 {
         self.row
     }
 
     /// How many bits of the strip are before it; 0 where it is a page and a row alone.
+    ///
+    /// ```
+    /// assert_eq!(faxpages::Cursor::inside_strip(0, 2, 21, &[0, 8])?.bits(), 21);
+    /// # Ok::<(), faxpages::Error>(())
+    /// ```
     #[must_use]
     pub const fn bits(&self) -> u32 {
         self.bits
     }
 
     /// The runs of the row before it, white first; none where it is a page and a row alone.
+    ///
+    /// ```
+    /// assert_eq!(faxpages::Cursor::inside_strip(0, 2, 21, &[0, 8])?.runs(), [0, 8]);
+    /// # Ok::<(), faxpages::Error>(())
+    /// ```
     #[must_use]
     pub fn runs(&self) -> &[u32] {
         &self.runs
     }
 
     /// Whether it is a place inside a strip.
+    ///
+    /// ```
+    /// assert!(!faxpages::Cursor::new(1, 7).is_inside_strip());
+    /// ```
     #[must_use]
     pub fn is_inside_strip(&self) -> bool {
         !self.runs.is_empty()
     }
 
-    /// The cursor of a place, whose runs stand first in a buffer.
-    pub(crate) fn of(place: &FaxPlace, runs: &[u32]) -> Self {
-        let runs = runs.get(..place.runs as usize).unwrap_or(&[]).to_vec();
-        Cursor { page: place.page, row: place.row, bits: if runs.is_empty() { 0 } else { place.bits }, runs }
+    /// The place of a walk.
+    pub(crate) fn of(walk: &inner::Walk<'_>) -> Self {
+        match walk.long_cursor(Global) {
+            Ok(Some(place)) => Cursor::of_long(&place),
+            // Where memory is refused the rows of the strip before it are read again.
+            Ok(None) | Err(_) => Cursor::new(walk.cursor().page, walk.cursor().row),
+        }
     }
 
-    /// Its place, and its runs in a buffer with room for those of any row.
-    pub(crate) fn place(&self) -> (FaxPlace, Vec<u32>) {
-        let mut runs = vec![0; RUNS];
-        runs[..self.runs.len()].copy_from_slice(&self.runs);
-        (self.own_place(), runs)
+    fn of_long(place: &inner::LongCursor) -> Self {
+        Cursor { page: place.at.page, row: place.at.row, bits: place.bits, runs: place.runs.to_vec() }
     }
 
-    fn own_place(&self) -> FaxPlace {
-        // There are at most 65,536 runs.
-        FaxPlace { page: self.page, row: self.row, bits: self.bits, runs: self.runs.len() as u32 }
+    /// Where a walk begins.
+    pub(crate) fn start(&self) -> WalkStart {
+        let at = inner::Cursor { page: self.page, row: self.row };
+        match Items::from_slice(Global, &self.runs) {
+            Ok(runs) if self.is_inside_strip() => {
+                WalkStart::AtLongCursor(inner::LongCursor { at, bits: self.bits, runs })
+            }
+            _ => WalkStart::AtCursor(at),
+        }
     }
 }
 
 impl fmt::Display for Cursor {
     fn fmt(&self, f: &mut fmt::Formatter<'_>) -> fmt::Result {
-        let mut text = vec![0; 64 + 11 * self.runs.len()];
-        let mut len = 0;
-        let status = calls::faxpages_place_text(&self.own_place(), &self.runs, &mut text, &mut len);
-        match (status, text.get(..len).map(std::str::from_utf8)) {
-            (calls::DONE, Some(Ok(text))) => f.write_str(text),
-            _ => Err(fmt::Error),
-        }
+        let Cursor { page, row, bits, .. } = self;
+        let Some((first, others)) = self.runs.split_first() else { return write!(f, "1:{page}:{row}") };
+        write!(f, "2:{page}:{row}:{bits}:{first}")?;
+        others.iter().try_for_each(|run| write!(f, ",{run}"))
     }
 }
 
@@ -119,14 +155,13 @@ impl FromStr for Cursor {
     type Err = Error;
 
     fn from_str(text: &str) -> Result<Self, Error> {
-        let (mut place, mut runs) = (calls::PLACE, vec![0; RUNS]);
-        let status = calls::faxpages_place_parse(text.as_bytes(), &mut place, &mut runs);
-        match status {
-            calls::DONE => Ok(Cursor::of(&place, &runs)),
-            calls::MEMORY => Err(Error::Memory),
-            // No row has more runs than have room.
-            calls::NO_PLACE | calls::NO_ROOM => Err(Error::NotACursor),
-            status => Err(refused(status, &calls::NO_FAULT)),
+        if let Ok(at) = inner::Cursor::parse(text) {
+            return Ok(Cursor::new(at.page, at.row));
+        }
+        match inner::LongCursor::parse(Global, text) {
+            Ok(place) if place.runs.len() <= MOST_RUNS => Ok(Cursor::of_long(&place)),
+            Ok(_) | Err(LongFault::NotACursor) => Err(Error::NotACursor),
+            Err(LongFault::Memory) => Err(Error::Memory),
         }
     }
 }

@@ -1,18 +1,25 @@
 //! What is wrong with a file, or with what was given.
 
-use crate::calls::{self, FaxFault};
+use crate::inner::{self, Cause, ConvertFault, End, RowsEnd, WalkFault};
 use std::fmt;
 
-/// Why nothing more is handed out.
+/// Why nothing more is read or written.
+///
+/// ```
+/// use faxpages::{Error, Fault, Fax};
+/// let error = Fax::new(b"II*\0\0\0\0\0").page(0).unwrap_err();
+/// assert_eq!(error, Error::Fault { page: 0, row: 0, fault: Fault::NoDirectory });
+/// assert_eq!(error.to_string(), "page 0 row 0: NoDirectory");
+/// ```
 #[derive(Clone, Debug, PartialEq, Eq, Hash, thiserror::Error)]
 #[non_exhaustive]
 pub enum Error {
-    /// The first fault of the file, where this row of a page was due.
+    /// The first fault of the file, at the next row of a page.
     #[error("page {page} row {row}: {fault}")]
     Fault {
-        /// The page that was due.
+        /// The page of the row.
         page: u32,
-        /// The row that was due; 0 for a fault of the header, of a directory or of a field.
+        /// The row; 0 for a fault of the header, of a directory or of a field.
         row: u32,
         /// What is wrong there.
         fault: Fault,
@@ -46,7 +53,7 @@ pub enum Error {
     /// Memory was refused.
     #[error("out of memory")]
     Memory,
-    /// The library answered with a number that this crate does not know.
+    /// A number of a later version: this version never returns it.
     #[error("the library answered with the unknown {what} {number}")]
     Unknown {
         /// What has the number, as `status`.
@@ -56,59 +63,201 @@ pub enum Error {
     },
 }
 
-/// What is wrong with a file or with the data of a strip. The text is the name, as `DataEnds`, and the tag of the field
-/// at fault where there is one, as the program faxpages prints them.
-#[derive(Clone, Copy, Debug, PartialEq, Eq, Hash)]
-#[non_exhaustive]
-pub enum Fault {
-    /// The file has fewer than eight bytes.
-    ShortHeader,
-    /// It begins with neither II nor MM: not a TIFF file.
-    ByteOrder,
-    /// The number after the byte order is not 42: not a TIFF file, or BigTIFF.
-    Magic,
-    /// The header names no page.
-    NoDirectory,
-    /// A page's directory lies outside the file: usually the end of the file is missing.
-    DirectoryOutside,
-    /// A directory is followed by itself or an earlier one. All pages come before the fault.
-    DirectoryLoop,
-    /// The field with this tag is missing.
-    MissingField(u32),
-    /// The field is neither SHORT nor LONG, has too few values in the file, or is a RowsPerStrip of 0.
-    BadField(u32),
-    /// A field has a value that no fax page has.
-    Unsupported(u32),
-    /// The page is empty, wider than 65,535 pels or longer than 1,000,000 rows.
-    OutOfLimits(u32),
-    /// A strip lies outside the file: usually the end of the file is missing.
-    StripOutside,
-    /// A strip ends before its rows do: the sender was cut off, or the page is shorter than it says.
-    DataEnds,
-    /// The next bits are neither a code nor the beginning of one.
-    BadCode,
-    /// An extension of T.4 or T.6, such as uncompressed mode, which is not read.
-    Extension,
-    /// A run passes the width of the page.
-    RunTooLong,
-    /// A vertical mode leads out of the row, or back.
-    OutOfRow,
-    /// No EOL stands before the row, in MH or MR.
-    MissingEol,
-    /// Eleven zeros, as in an end mark, stand in place of a row: the page may be shorter than it says.
-    EndMarker,
-    /// A strip of unknown height has more than 1,000,000 rows.
-    TooManyRows,
-    /// A fault that this crate does not know, of a later library.
-    Unknown {
-        /// Its number, as in `faxpages.h`.
-        number: u32,
-        /// The tag of the field at fault, or 0.
-        tag: u32,
-    },
+impl Error {
+    pub(crate) fn at(page: u32, row: u32, cause: Cause) -> Self {
+        Error::Fault { page, row, fault: Fault::of(cause) }
+    }
+
+    /// What a growth that was refused is.
+    pub(crate) fn memory<T>(_refused: T) -> Self {
+        Error::Memory
+    }
+
+    pub(crate) fn of_walk(fault: WalkFault) -> Self {
+        match fault {
+            WalkFault::Memory => Error::Memory,
+            WalkFault::AtRow { page, row, cause } => Error::at(page, row, cause),
+            WalkFault::CursorOutside => Error::Outside,
+        }
+    }
+
+    /// Why there is no page.
+    pub(crate) fn of_end(end: End) -> Self {
+        match end {
+            End::Fault { page, row, cause } => Error::at(page, row, cause),
+            End::EndOfPages | End::Outside => Error::Outside,
+        }
+    }
+
+    pub(crate) fn of_conversion(fault: ConvertFault) -> Self {
+        match fault {
+            ConvertFault::UnknownInput => Error::UnknownInput,
+            ConvertFault::Pbm { image, fault } => Error::Pbm { image, fault: PbmFault::of(fault) },
+            ConvertFault::Source { page, row, cause } => Error::at(page, row, cause),
+            ConvertFault::OutputTooLarge => Error::OutputTooLarge,
+            ConvertFault::Memory => Error::Memory,
+        }
+    }
+}
+
+/// The faults of a file, of a strip, and of rows of unknown height, each with its number and what it means.
+macro_rules! faults {
+    (
+        File { $($file:ident $(($tag:ty))? = $file_number:literal, $file_means:literal;)* }
+        Strip { $($strip:ident = $strip_number:literal, $strip_means:literal;)* }
+        Rows { $($rows:ident = $rows_number:literal, $rows_means:literal;)* }
+    ) => {
+        /// What is wrong with a file or with the data of a strip. The text is the name, as `DataEnds`, and the tag of
+        /// the field at fault where there is one, as the program faxpages prints them.
+        ///
+        /// ```
+        /// let fault = faxpages::Fault::MissingField(273);
+        /// assert_eq!((fault.name(), fault.number(), fault.tag()), ("MissingField", 7, Some(273)));
+        /// assert_eq!(fault.to_string(), "MissingField 273");
+        /// ```
+        #[derive(Clone, Copy, Debug, PartialEq, Eq, Hash)]
+        #[non_exhaustive]
+        pub enum Fault {
+            $(#[doc = $file_means] $file $(($tag))?,)*
+            $(#[doc = $strip_means] $strip,)*
+            $(#[doc = $rows_means] $rows,)*
+            /// A fault of a later version: this version never returns it.
+            Unknown {
+                /// Its number, as in `faxpages.h`.
+                number: u32,
+                /// The tag of the field at fault, or 0.
+                tag: u32,
+            },
+        }
+
+        impl Fault {
+            pub(crate) fn of(cause: Cause) -> Self {
+                match cause {
+                    $(cause @ Cause::File(inner::FileFault::$file { .. }) => {
+                        let _tag = cause.name().1;
+                        Fault::$file $((<$tag>::from(_tag.unwrap_or(0))))?
+                    })*
+                    $(Cause::Strip(inner::StripFault::$strip) => Fault::$strip,)*
+                }
+            }
+
+            /// Its number, its name and what it means.
+            const fn row(&self) -> (u32, &'static str, &'static str) {
+                match self {
+                    $(Fault::$file { .. } => ($file_number, stringify!($file), $file_means),)*
+                    $(Fault::$strip => ($strip_number, stringify!($strip), $strip_means),)*
+                    $(Fault::$rows => ($rows_number, stringify!($rows), $rows_means),)*
+                    Fault::Unknown { number, .. } => (*number, "Unknown", "A fault of a later version."),
+                }
+            }
+        }
+    };
+}
+
+faults! {
+    File {
+        ShortHeader = 1, "The file has fewer than eight bytes.";
+        ByteOrder = 2, "It begins with neither II nor MM: not a TIFF file.";
+        Magic = 3, "The number after the byte order is not 42: not a TIFF file, or BigTIFF.";
+        NoDirectory = 4, "The header names no page.";
+        DirectoryOutside = 5, "A page's directory lies outside the file: usually the end of the file is missing.";
+        DirectoryLoop = 6, "A directory is followed by itself or an earlier one. All pages come before the fault.";
+        MissingField(u32) = 7, "The field with this tag is missing.";
+        BadField(u32) = 8,
+            "The field is neither SHORT nor LONG, has too few values in the file, or is a RowsPerStrip of 0.";
+        Unsupported(u32) = 9, "A field has a value that no fax page has.";
+        OutOfLimits(u32) = 10, "The page is empty, wider than 65,535 pels or longer than 1,000,000 rows.";
+        StripOutside = 11, "A strip lies outside the file: usually the end of the file is missing.";
+    }
+    Strip {
+        DataEnds = 101, "A strip ends before its rows do: the sender was cut off, or the page is shorter than it says.";
+        BadCode = 102, "The next bits are neither a code nor the beginning of one.";
+        Extension = 103, "An extension of T.4 or T.6, such as uncompressed mode, which is not read.";
+        RunTooLong = 104, "A run passes the width of the page.";
+        OutOfRow = 105, "A vertical mode leads out of the row, or back.";
+        MissingEol = 106, "No EOL stands before the row, in MH or MR.";
+        EndMarker = 107,
+            "Eleven zeros, as in an end mark, stand in place of a row: the page may be shorter than it says.";
+    }
+    Rows {
+        TooManyRows = 108, "A strip of unknown height has more than 1,000,000 rows.";
+    }
+}
+
+impl Fault {
+    /// How rows of unknown height end, if they do not end well.
+    pub(crate) fn of_rows(end: RowsEnd) -> Option<Self> {
+        match end {
+            RowsEnd::Marked | RowsEnd::DataEnd => None,
+            RowsEnd::Fault(fault) => Some(Fault::of(Cause::Strip(fault))),
+            RowsEnd::TooMany => Some(Fault::TooManyRows),
+        }
+    }
+
+    /// Its number, which never changes, as in `faxpages.h`.
+    ///
+    /// ```
+    /// assert_eq!(faxpages::Fault::DataEnds.number(), 101);
+    /// ```
+    #[must_use]
+    pub const fn number(self) -> u32 {
+        self.row().0
+    }
+
+    /// Its name, as `DataEnds`.
+    ///
+    /// ```
+    /// assert_eq!(faxpages::Fault::DataEnds.name(), "DataEnds");
+    /// ```
+    #[must_use]
+    pub const fn name(self) -> &'static str {
+        self.row().1
+    }
+
+    /// What it means, in a sentence, as docs/TROUBLESHOOTING.md has it.
+    ///
+    /// ```
+    /// assert_eq!(faxpages::Fault::MissingField(273).explanation(), "No strips are named: usually a page of tiles.");
+    /// ```
+    #[must_use]
+    pub const fn explanation(&self) -> &'static str {
+        match self {
+            Fault::MissingField(273) => "No strips are named: usually a page of tiles.",
+            Fault::Unsupported(259) => "Another compression than 3 (MH, MR) or 4 (MMR).",
+            fault => fault.row().2,
+        }
+    }
+
+    /// The tag of the field at fault, where it has one.
+    ///
+    /// ```
+    /// assert_eq!(faxpages::Fault::BadField(256).tag(), Some(256));
+    /// ```
+    #[must_use]
+    pub const fn tag(self) -> Option<u32> {
+        match self {
+            Fault::MissingField(tag) | Fault::BadField(tag) | Fault::Unsupported(tag) | Fault::OutOfLimits(tag) => {
+                Some(tag)
+            }
+            _ => None,
+        }
+    }
+}
+
+impl fmt::Display for Fault {
+    fn fmt(&self, f: &mut fmt::Formatter<'_>) -> fmt::Result {
+        f.write_str(self.name())?;
+        self.tag().map_or(Ok(()), |tag| write!(f, " {tag}"))
+    }
 }
 
 /// What is wrong with an image of a raw PBM.
+///
+/// ```
+/// use faxpages::{convert, Error, Options, PbmFault, Target};
+/// let error = convert(b"P4\n8 2\n\0", &Options::new(Target::Mmr)).unwrap_err();
+/// assert_eq!(error, Error::Pbm { image: 0, fault: PbmFault::ShortRaster });
+/// ```
 #[derive(Clone, Copy, Debug, PartialEq, Eq, Hash)]
 #[non_exhaustive]
 pub enum PbmFault {
@@ -118,11 +267,63 @@ pub enum PbmFault {
     OutOfLimits,
     /// Its rows are not all there.
     ShortRaster,
-    /// A fault that this crate does not know, of a later library: its number, as in `faxpages.h`.
+    /// A fault of a later version, by its number: this version never returns it.
     Unknown(u32),
 }
 
+impl PbmFault {
+    fn of(fault: inner::PbmFault) -> Self {
+        match fault {
+            inner::PbmFault::BadHeader => PbmFault::BadHeader,
+            inner::PbmFault::OutOfLimits => PbmFault::OutOfLimits,
+            inner::PbmFault::ShortRaster => PbmFault::ShortRaster,
+        }
+    }
+
+    const fn row(self) -> (u32, &'static str) {
+        match self {
+            PbmFault::BadHeader => (201, "BadHeader"),
+            PbmFault::OutOfLimits => (202, "OutOfLimits"),
+            PbmFault::ShortRaster => (203, "ShortRaster"),
+            PbmFault::Unknown(number) => (number, "Unknown"),
+        }
+    }
+
+    /// Its number, which never changes, as in `faxpages.h`.
+    ///
+    /// ```
+    /// assert_eq!(faxpages::PbmFault::ShortRaster.number(), 203);
+    /// ```
+    #[must_use]
+    pub const fn number(self) -> u32 {
+        self.row().0
+    }
+
+    /// Its name, as `ShortRaster`.
+    ///
+    /// ```
+    /// assert_eq!(faxpages::PbmFault::ShortRaster.name(), "ShortRaster");
+    /// ```
+    #[must_use]
+    pub const fn name(self) -> &'static str {
+        self.row().1
+    }
+}
+
+impl fmt::Display for PbmFault {
+    fn fmt(&self, f: &mut fmt::Formatter<'_>) -> fmt::Result {
+        f.write_str(self.name())
+    }
+}
+
 /// What of that which was given is out of range.
+///
+/// ```
+/// use faxpages::{code_strip, Coding, Invalid, StripForm};
+/// let refused = code_strip(&StripForm::new(0, Coding::Mmr), None, &[0], 1).unwrap_err();
+/// assert_eq!(refused, Invalid::Width(0).into());
+/// assert_eq!(refused.to_string(), "a row has 1 to 65,535 pels, and not 0");
+/// ```
 #[derive(Clone, Copy, Debug, PartialEq, Eq, Hash, thiserror::Error)]
 #[non_exhaustive]
 pub enum Invalid {
@@ -191,189 +392,3 @@ impl From<Invalid> for Error {
     }
 }
 
-impl Fault {
-    /// Each fault by its number, where a tag is told with it.
-    pub(crate) const fn of(number: u32, tag: u32) -> Self {
-        match number {
-            1 => Fault::ShortHeader,
-            2 => Fault::ByteOrder,
-            3 => Fault::Magic,
-            4 => Fault::NoDirectory,
-            5 => Fault::DirectoryOutside,
-            6 => Fault::DirectoryLoop,
-            7 => Fault::MissingField(tag),
-            8 => Fault::BadField(tag),
-            9 => Fault::Unsupported(tag),
-            10 => Fault::OutOfLimits(tag),
-            11 => Fault::StripOutside,
-            101 => Fault::DataEnds,
-            102 => Fault::BadCode,
-            103 => Fault::Extension,
-            104 => Fault::RunTooLong,
-            105 => Fault::OutOfRow,
-            106 => Fault::MissingEol,
-            107 => Fault::EndMarker,
-            108 => Fault::TooManyRows,
-            number => Fault::Unknown { number, tag },
-        }
-    }
-
-    /// Its number, which never changes, and its name.
-    const fn told(self) -> (u32, &'static str) {
-        match self {
-            Fault::ShortHeader => (1, "ShortHeader"),
-            Fault::ByteOrder => (2, "ByteOrder"),
-            Fault::Magic => (3, "Magic"),
-            Fault::NoDirectory => (4, "NoDirectory"),
-            Fault::DirectoryOutside => (5, "DirectoryOutside"),
-            Fault::DirectoryLoop => (6, "DirectoryLoop"),
-            Fault::MissingField(_) => (7, "MissingField"),
-            Fault::BadField(_) => (8, "BadField"),
-            Fault::Unsupported(_) => (9, "Unsupported"),
-            Fault::OutOfLimits(_) => (10, "OutOfLimits"),
-            Fault::StripOutside => (11, "StripOutside"),
-            Fault::DataEnds => (101, "DataEnds"),
-            Fault::BadCode => (102, "BadCode"),
-            Fault::Extension => (103, "Extension"),
-            Fault::RunTooLong => (104, "RunTooLong"),
-            Fault::OutOfRow => (105, "OutOfRow"),
-            Fault::MissingEol => (106, "MissingEol"),
-            Fault::EndMarker => (107, "EndMarker"),
-            Fault::TooManyRows => (108, "TooManyRows"),
-            Fault::Unknown { number, .. } => (number, "Unknown"),
-        }
-    }
-
-    /// Its number, which never changes, as in `faxpages.h`.
-    #[must_use]
-    pub const fn number(self) -> u32 {
-        self.told().0
-    }
-
-    /// Its name, as `DataEnds`.
-    #[must_use]
-    pub const fn name(self) -> &'static str {
-        self.told().1
-    }
-
-    /// The tag of the field at fault, where it has one.
-    #[must_use]
-    pub const fn tag(self) -> Option<u32> {
-        match self {
-            Fault::MissingField(tag) | Fault::BadField(tag) | Fault::Unsupported(tag) | Fault::OutOfLimits(tag) => {
-                Some(tag)
-            }
-            Fault::Unknown { tag, .. } if tag != 0 => Some(tag),
-            _ => None,
-        }
-    }
-}
-
-impl fmt::Display for Fault {
-    fn fmt(&self, f: &mut fmt::Formatter<'_>) -> fmt::Result {
-        f.write_str(self.name())?;
-        if let Fault::Unknown { number, .. } = self {
-            write!(f, " {number}")?;
-        }
-        self.tag().map_or(Ok(()), |tag| write!(f, " {tag}"))
-    }
-}
-
-impl PbmFault {
-    pub(crate) const fn of(number: u32) -> Self {
-        match number {
-            201 => PbmFault::BadHeader,
-            202 => PbmFault::OutOfLimits,
-            203 => PbmFault::ShortRaster,
-            number => PbmFault::Unknown(number),
-        }
-    }
-
-    /// Its number, which never changes, as in `faxpages.h`.
-    #[must_use]
-    pub const fn number(self) -> u32 {
-        match self {
-            PbmFault::BadHeader => 201,
-            PbmFault::OutOfLimits => 202,
-            PbmFault::ShortRaster => 203,
-            PbmFault::Unknown(number) => number,
-        }
-    }
-
-    /// Its name, as `ShortRaster`.
-    #[must_use]
-    pub const fn name(self) -> &'static str {
-        match self {
-            PbmFault::BadHeader => "BadHeader",
-            PbmFault::OutOfLimits => "OutOfLimits",
-            PbmFault::ShortRaster => "ShortRaster",
-            PbmFault::Unknown(_) => "Unknown",
-        }
-    }
-}
-
-impl fmt::Display for PbmFault {
-    fn fmt(&self, f: &mut fmt::Formatter<'_>) -> fmt::Result {
-        match self {
-            PbmFault::Unknown(number) => write!(f, "Unknown {number}"),
-            fault => f.write_str(fault.name()),
-        }
-    }
-}
-
-pub(crate) fn fault_of(told: &FaxFault) -> Error {
-    Error::Fault { page: told.page, row: told.row, fault: Fault::of(told.number, told.tag) }
-}
-
-/// Why a call wrote no more, by its status; none at the end of the file.
-pub(crate) fn stopped(status: u32, fault: &FaxFault) -> Option<Error> {
-    match status {
-        calls::END => None,
-        calls::FAULT => Some(fault_of(fault)),
-        calls::OUTSIDE => Some(Error::Outside),
-        calls::MEMORY => Some(Error::Memory),
-        calls::NO_ROOM => Some(Error::NoRoom),
-        calls::NO_OPTIONS => Some(Invalid::Unknown.into()),
-        calls::TOO_LARGE => Some(Error::OutputTooLarge),
-        number => Some(Error::Unknown { what: "status", number }),
-    }
-}
-
-/// The same where the end of a file can't be told.
-pub(crate) fn refused(status: u32, fault: &FaxFault) -> Error {
-    stopped(status, fault).unwrap_or(Error::Unknown { what: "status", number: status })
-}
-
-#[cfg(test)]
-mod tests {
-    use super::*;
-
-    #[test]
-    fn what_is_unknown_is_told() {
-        let fault = Fault::of(109, 0);
-        assert_eq!((fault.number(), fault.name(), fault.tag()), (109, "Unknown", None));
-        assert_eq!(fault.to_string(), "Unknown 109");
-        assert_eq!(Fault::of(12, 258).to_string(), "Unknown 12 258");
-        assert_eq!(PbmFault::of(204).to_string(), "Unknown 204");
-        let told = FaxFault { number: 109, tag: 0, page: 1, row: 2 };
-        assert_eq!(fault_of(&told).to_string(), "page 1 row 2: Unknown 109");
-        assert_eq!(refused(9, &told).to_string(), "the library answered with the unknown status 9");
-        assert_eq!(refused(calls::END, &told), Error::Unknown { what: "status", number: 1 });
-    }
-
-    #[test]
-    fn faults_have_the_names_of_the_library() {
-        for number in 0..400 {
-            let mut name = [0; 16];
-            let len = calls::faxpages_fault_name(number, &mut name);
-            let named = std::str::from_utf8(&name[..len]).unwrap();
-            let told = match number {
-                201..=299 => PbmFault::of(number).name(),
-                301 | 302 => continue,
-                _ => Fault::of(number, 0).name(),
-            };
-            assert_eq!(told, if len == 0 { "Unknown" } else { named }, "{number}");
-            assert_eq!((Fault::of(number, 0).number(), PbmFault::of(number).number()), (number, number));
-        }
-    }
-}

@@ -1,14 +1,19 @@
 //! Whole pages.
 
-use crate::calls;
-use crate::error::{fault_of, refused, Error};
-use crate::format::Packed;
-use crate::rows::{Reader, ROWS};
-use crate::{filled, form_of, Cursor, Fax, Form, Forms};
+use crate::rows::LentRows;
+use crate::{filled, Cursor, Error, Fax, Form, Forms};
 use std::iter::FusedIterator;
-use std::ops::Range;
 
 /// A page: its form, and its rows one after another in one block of bytes.
+///
+/// ```
+/// # let mut writer = faxpages::Writer::new(1)?;
+/// # writer.add(&faxpages::Form::new(8, 2, faxpages::Coding::Mmr), None, &[0x18, 0xFC], 1)?;
+/// # let file = writer.finish()?;
+/// let page = faxpages::Fax::new(&file).page(0)?;
+/// assert_eq!((page.form.width, page.packed, page.fault), (8, vec![0x18, 0xFC], None));
+/// # Ok::<(), faxpages::Error>(())
+/// ```
 #[derive(Clone, Debug, PartialEq, Eq, Hash)]
 #[non_exhaustive]
 pub struct Page {
@@ -22,12 +27,28 @@ pub struct Page {
 
 impl Page {
     /// Its rows, from the first on.
+    ///
+    /// ```
+    /// # let mut writer = faxpages::Writer::new(1)?;
+    /// # writer.add(&faxpages::Form::new(8, 2, faxpages::Coding::Mmr), None, &[0x18, 0xFC], 1)?;
+    /// # let file = writer.finish()?;
+    /// assert_eq!(faxpages::Fax::new(&file).page(0)?.rows().next(), Some(&[0x18][..]));
+    /// # Ok::<(), faxpages::Error>(())
+    /// ```
     #[must_use]
     pub fn rows(&self) -> impl ExactSizeIterator<Item = &[u8]> {
         self.packed.chunks_exact(self.form.stride())
     }
 
     /// A row by its number, from 0; none where it is missing.
+    ///
+    /// ```
+    /// # let mut writer = faxpages::Writer::new(1)?;
+    /// # writer.add(&faxpages::Form::new(8, 2, faxpages::Coding::Mmr), None, &[0x18, 0xFC], 1)?;
+    /// # let file = writer.finish()?;
+    /// assert_eq!(faxpages::Fax::new(&file).page(0)?.row(1), Some(&[0xFC][..]));
+    /// # Ok::<(), faxpages::Error>(())
+    /// ```
     #[must_use]
     pub fn row(&self, number: u32) -> Option<&[u8]> {
         self.rows().nth(number as usize)
@@ -60,13 +81,51 @@ impl Page {
     }
 
     /// How many rows are missing after these.
+    ///
+    /// ```
+    /// # let mut writer = faxpages::Writer::new(1)?;
+    /// # writer.add(&faxpages::Form::new(8, 20, faxpages::Coding::Mmr), 1, &[0; 20], 1)?;
+    /// # let mut file = writer.finish()?;
+    /// file[9..14].fill(0); // after the bits of eight white rows
+    /// assert_eq!(faxpages::Fax::new(&file).partial_page(0)?.lost(), 12);
+    /// # Ok::<(), faxpages::Error>(())
+    /// ```
     #[must_use]
     pub fn lost(&self) -> u32 {
         self.form.rows.saturating_sub(self.rows().len() as u32)
     }
+
+    /// The page of a form, whose rows come next, or what stands before its fault. Memory is taken for what was read.
+    pub(crate) fn read(rows: &mut LentRows<'_>, form: Form) -> Self {
+        let (mut packed, stride) = (Vec::new(), form.stride());
+        let mut fault = None;
+        while fault.is_none() && packed.len() < form.rows as usize * stride {
+            fault = match rows.next() {
+                Ok(None) => Some(Error::Outside),
+                Err(error) => Some(error),
+                Ok(Some(_)) if packed.try_reserve(stride).is_err() => Some(Error::Memory),
+                Ok(Some(row)) => {
+                    let begin = packed.len();
+                    packed.resize(begin + stride, 0);
+                    row.pack_into(&mut packed[begin..]);
+                    None
+                }
+            };
+        }
+        Page { form, packed, fault }
+    }
 }
 
 /// What was written of a page into a buffer.
+///
+/// ```
+/// # let mut writer = faxpages::Writer::new(1)?;
+/// # writer.add(&faxpages::Form::new(8, 2, faxpages::Coding::Mmr), None, &[0x18, 0xFC], 1)?;
+/// # let file = writer.finish()?;
+/// let filled = faxpages::Fax::new(&file).page_into(0, &mut [0], 1)?;
+/// assert_eq!((filled.rows, filled.stopped), (1, Some(faxpages::Error::NoRoom)));
+/// # Ok::<(), faxpages::Error>(())
+/// ```
 #[derive(Clone, Debug, PartialEq, Eq, Hash)]
 #[non_exhaustive]
 pub struct Filled {
@@ -78,78 +137,59 @@ pub struct Filled {
     pub stopped: Option<Error>,
 }
 
-pub(crate) fn read_into(file: &[u8], page: u32, out: &mut [u8], stride: usize) -> Result<Filled, Error> {
-    let (mut form, mut told) = (calls::FORM, calls::TOLD);
-    let status = calls::faxpages_page(file, page, &mut form, out, stride, &mut told);
-    let filled = |stopped| Ok(Filled { form: form_of(page, &form)?, rows: told.count, stopped });
-    match status {
-        calls::DONE => filled(None),
-        calls::NO_ROOM => filled(Some(Error::NoRoom)),
-        // No form is told where the fault stands before the page's rows.
-        calls::FAULT if form.width != 0 => filled(Some(fault_of(&told.fault))),
-        calls::END => Err(Error::Outside),
-        status => Err(refused(status, &told.fault)),
-    }
-}
-
-/// A reader of rows over pages, and those of them that are not taken yet.
-#[derive(Debug)]
-struct Taken<'a> {
-    reader: Reader<'a, Packed>,
-    ready: Range<usize>,
-    ended: Option<Option<Error>>,
-}
-
-impl Taken<'_> {
-    /// The bytes of the rows that come next, so many, and why there are fewer. At most so many more are read ahead.
-    fn take(&mut self, mut rows: usize, ahead: usize) -> Result<(Vec<u8>, Option<Error>), Error> {
-        let mut packed = Vec::new();
-        loop {
-            let end = self.ready.end.min(self.ready.start.saturating_add(rows));
-            let numbers = self.reader.numbers(self.ready.start..end);
-            packed.try_reserve(numbers.len()).map_err(|_| Error::Memory)?;
-            packed.extend_from_slice(numbers);
-            rows -= end - self.ready.start;
-            self.ready.start = end;
-            if rows == 0 {
-                return Ok((packed, None));
-            }
-            if let Some(ended) = &self.ended {
-                return Ok((packed, Some(ended.clone().unwrap_or(Error::Outside))));
-            }
-            let (count, ended) = self.reader.read(rows.max(ahead));
-            (self.ready, self.ended) = (0..count, ended);
+impl Filled {
+    /// Writes the rows of a page of a file, each so many bytes after the one above it.
+    pub(crate) fn read(file: &[u8], form: Form, mut out: &mut [u8], stride: usize) -> Self {
+        let mut rows = LentRows::new(file, &Cursor::new(form.page, 0));
+        let (packed, mut count, mut stopped) = (form.stride(), 0, None);
+        while stopped.is_none() && count < form.rows as usize {
+            stopped = match rows.next() {
+                _ if stride < packed => Some(Error::NoRoom),
+                Ok(None) => Some(Error::Outside),
+                Err(error) => Some(error),
+                Ok(Some(_)) if out.len() < stride => Some(Error::NoRoom),
+                Ok(Some(row)) => {
+                    let (place, rest) = out.split_at_mut(stride);
+                    row.pack_into(&mut place[..packed]);
+                    place[packed..].fill(0);
+                    (out, count) = (rest, count + 1);
+                    None
+                }
+            };
         }
+        Filled { form, rows: count, stopped }
     }
-}
-
-/// The page of a form, or what stands before its fault.
-pub(crate) fn read(file: &[u8], form: Form) -> Result<Page, Error> {
-    let rows = form.rows as usize;
-    let reader = Reader::new(file, &Cursor::new(form.page, 0), rows);
-    let (packed, fault) = Taken { reader, ready: 0..0, ended: None }.take(rows, 0)?;
-    Ok(Page { form, packed, fault })
 }
 
 /// Pages in order, each whole, and the error that ends them.
+///
+/// ```
+/// # let mut writer = faxpages::Writer::new(1)?;
+/// # writer.add(&faxpages::Form::new(8, 2, faxpages::Coding::Mmr), None, &[0x18, 0xFC], 1)?;
+/// # let file = writer.finish()?;
+/// for page in faxpages::Fax::new(&file).pages() {
+///     assert_eq!(page?.packed, [0x18, 0xFC]);
+/// }
+/// # Ok::<(), faxpages::Error>(())
+/// ```
 #[must_use = "an iterator reads nothing before it is asked"]
 #[derive(Debug)]
 pub struct Pages<'a> {
     forms: Forms<'a>,
-    rows: Taken<'a>,
-    ended: bool,
+    rows: LentRows<'a>,
+    is_ended: bool,
 }
 
 impl<'a> Pages<'a> {
     pub(crate) fn new(file: &'a [u8]) -> Self {
-        let reader = Reader::new(file, &Cursor::default(), ROWS);
-        Pages { forms: Fax::new(file).forms(), rows: Taken { reader, ready: 0..0, ended: None }, ended: false }
+        Pages { forms: Fax::new(file).forms(), rows: LentRows::new(file, &Cursor::default()), is_ended: false }
     }
 
     fn page_of(&mut self, form: Form) -> Result<Page, Error> {
-        match self.rows.take(form.rows as usize, ROWS)? {
-            (packed, None) => Ok(Page { form, packed, fault: None }),
-            (_, Some(fault)) => Err(fault),
+        let page = Page::read(&mut self.rows, form);
+        match page.fault {
+            Some(fault) => Err(fault),
+            None => Ok(page),
         }
     }
 }
@@ -158,11 +198,11 @@ impl Iterator for Pages<'_> {
     type Item = Result<Page, Error>;
 
     fn next(&mut self) -> Option<Self::Item> {
-        if self.ended {
+        if self.is_ended {
             return None;
         }
         let page = self.forms.next().map(|form| self.page_of(form?));
-        self.ended = !matches!(page, Some(Ok(_)));
+        self.is_ended = !matches!(page, Some(Ok(_)));
         page
     }
 }

@@ -1,12 +1,19 @@
 //! What is left of damaged pages and strips.
 
-use crate::calls::{self, FaxLost, FaxPlace, FaxTold};
-use crate::error::{refused, Error, Fault};
-use crate::filled;
-use crate::rows::Row;
+use crate::inner::{self, Global, RowsEnd, SalvagedPart};
+use crate::rows::LentRow;
+use crate::{filled, Error, Fault, Row};
 use std::fmt;
 
 /// Rows that are lost, one after another.
+///
+/// ```
+/// # use faxpages::{Coding, Fault, Strip, StripForm};
+/// let form = StripForm { rows: Some(3), ..StripForm::new(8, Coding::Mh) };
+/// let left = Strip::new(&[0x00, 0x19, 0x80, 0x0F, 0x00, 0x19, 0x80], form).salvaged()?;
+/// assert_eq!((left.lost[0].first, left.lost[0].rows, left.lost[0].fault), (1, 1, Fault::BadCode));
+/// # Ok::<(), faxpages::Error>(())
+/// ```
 #[derive(Clone, Copy, Debug, PartialEq, Eq, Hash)]
 #[non_exhaustive]
 pub struct Stretch {
@@ -20,6 +27,14 @@ pub struct Stretch {
 
 /// What is left of a page or of a strip: all its rows in one block of bytes, where those that are lost are white. No
 /// row is made up, copied or guessed.
+///
+/// ```
+/// # use faxpages::{Coding, Strip, StripForm};
+/// let form = StripForm { rows: Some(3), ..StripForm::new(8, Coding::Mh) };
+/// let left = Strip::new(&[0x00, 0x19, 0x80, 0x0F, 0x00, 0x19, 0x80], form).salvaged()?;
+/// assert_eq!((left.packed.len(), left.found(), left.lost.len()), (3, 2, 1));
+/// # Ok::<(), faxpages::Error>(())
+/// ```
 #[derive(Clone, Debug, PartialEq, Eq, Hash)]
 #[non_exhaustive]
 pub struct Salvaged {
@@ -29,97 +44,88 @@ pub struct Salvaged {
     pub packed: Vec<u8>,
     /// The stretches of rows that are lost, from the top down.
     pub lost: Vec<Stretch>,
-    /// Of rows that nobody counted: whether an end mark stands after them.
+    /// Of a strip of unknown height: whether an end mark stands after its rows.
     pub end_mark: bool,
-    /// Of rows that nobody counted: the fault with which they end, if they do not end well.
+    /// Of a strip of unknown height: the fault with which its rows end, if they do not end well.
     pub fault: Option<Fault>,
 }
 
 impl Salvaged {
     /// Its rows, from the first on, white where they are lost.
+    ///
+    /// ```
+    /// # use faxpages::{Coding, Strip, StripForm};
+    /// let form = StripForm { rows: Some(3), ..StripForm::new(8, Coding::Mh) };
+    /// let left = Strip::new(&[0x00, 0x19, 0x80, 0x0F, 0x00, 0x19, 0x80], form).salvaged()?;
+    /// assert_eq!((left.rows().len(), left.rows().next()), (3, Some(&[0][..])));
+    /// # Ok::<(), faxpages::Error>(())
+    /// ```
     #[must_use]
     pub fn rows(&self) -> impl ExactSizeIterator<Item = &[u8]> {
         self.packed.chunks_exact((self.width.div_ceil(8) as usize).max(1))
     }
 
     /// How many rows are found.
+    ///
+    /// ```
+    /// # use faxpages::{Coding, Strip, StripForm};
+    /// let form = StripForm { rows: Some(3), ..StripForm::new(8, Coding::Mh) };
+    /// assert_eq!(Strip::new(&[0x00, 0x19, 0x80, 0x0F, 0x00, 0x19, 0x80], form).salvaged()?.found(), 2);
+    /// # Ok::<(), faxpages::Error>(())
+    /// ```
     #[must_use]
     pub fn found(&self) -> usize {
         self.rows().len() - self.lost.iter().map(|stretch| stretch.rows as usize).sum::<usize>()
     }
 
     /// Whether a row is lost, by its number from 0.
+    ///
+    /// ```
+    /// # use faxpages::{Coding, Strip, StripForm};
+    /// let form = StripForm { rows: Some(3), ..StripForm::new(8, Coding::Mh) };
+    /// let left = Strip::new(&[0x00, 0x19, 0x80, 0x0F, 0x00, 0x19, 0x80], form).salvaged()?;
+    /// assert_eq!([0, 1, 2].map(|row| left.is_lost(row)), [false, true, false]);
+    /// # Ok::<(), faxpages::Error>(())
+    /// ```
     #[must_use]
     pub fn is_lost(&self, row: u32) -> bool {
         let after = self.lost.partition_point(|stretch| stretch.first <= row);
         after > 0 && row - self.lost[after - 1].first < self.lost[after - 1].rows
     }
-}
 
-/// Rooms for so many rows, and what a call left there.
-struct Rooms {
-    packed: Vec<u8>,
-    lost: Vec<FaxLost>,
-    told: FaxTold,
-    status: u32,
-}
-
-impl Rooms {
-    /// With room for all stretches that the rows can have.
-    fn filled(width: u32, rows: u32, call: &mut Call<'_>) -> Result<Self, Error> {
+    /// All that is left of a page or of a strip with so many rows.
+    pub(crate) fn read(rows: inner::SalvagedRows<'_>, width: u32, count: u32) -> Result<Self, Error> {
         let stride = width.div_ceil(8) as usize;
-        let mut packed = filled(0, (rows as usize).checked_mul(stride).ok_or(Error::Memory)?)?;
-        let mut lost = filled(calls::LOST, rows.div_ceil(2) as usize)?;
-        let mut told = calls::TOLD;
-        let status = call(&mut packed, stride, &mut lost, &mut told);
-        Ok(Rooms { packed, lost, told, status })
-    }
-
-    fn salvaged(self, width: u32, end_mark: bool, fault: Option<Fault>) -> Salvaged {
-        let stretch = |it: &FaxLost| Stretch { first: it.row, rows: it.rows, fault: Fault::of(it.fault, 0) };
-        let lost = self.lost[..self.told.used].iter().map(stretch).collect();
-        Salvaged { width, packed: self.packed, lost, end_mark, fault }
-    }
-}
-
-/// A call for what is left, by a raster, the bytes of a row there, a table of stretches, and what is told.
-pub(crate) type Call<'a> = dyn FnMut(&mut [u8], usize, &mut [FaxLost], &mut FaxTold) -> u32 + 'a;
-
-/// What a call leaves of so many rows.
-pub(crate) fn salvaged(width: u32, rows: u32, call: &mut Call<'_>) -> Result<Salvaged, Error> {
-    let left = Rooms::filled(width, rows, call)?;
-    match left.status {
-        calls::DONE => Ok(left.salvaged(width, false, None)),
-        status => Err(refused(status, &left.told.fault)),
-    }
-}
-
-/// What a call leaves of rows that nobody counted: with no room it tells how many there are.
-pub(crate) fn salvaged_uncounted(width: u32, call: &mut Call<'_>) -> Result<Salvaged, Error> {
-    let mut left = Rooms::filled(width, 0, call)?;
-    if left.status == calls::NO_ROOM {
-        left = Rooms::filled(width, left.told.row, call)?;
-    }
-    match left.status {
-        calls::END => Ok(left.salvaged(width, true, None)),
-        calls::DATA_END => Ok(left.salvaged(width, false, None)),
-        calls::FAULT => {
-            let fault = Fault::of(left.told.fault.number, 0);
-            Ok(left.salvaged(width, false, Some(fault)))
+        let mut packed = filled(0, stride.checked_mul(count as usize).ok_or(Error::Memory)?)?;
+        let (mut left, mut lost) = (SalvagedRows::new(rows, 0), Vec::new());
+        while let Some(piece) = left.next_piece() {
+            match piece {
+                Piece::Lost(stretch) => lost.push(stretch),
+                Piece::Row(row) => row.pack_into(&mut packed[row.number as usize * stride..][..stride]),
+            }
         }
-        status => Err(refused(status, &left.told.fault)),
+        Ok(Salvaged { width, packed, lost, end_mark: false, fault: None })
     }
-}
 
-/// What is left of the page of a form.
-pub(crate) fn page(file: &[u8], page: u32, width: u32, rows: u32) -> Result<Salvaged, Error> {
-    let mut form = calls::FORM;
-    salvaged(width, rows, &mut |out, stride, lost, told| {
-        calls::faxpages_salvage(file, page, &mut form, out, stride, lost, told)
-    })
+    /// All that is left of a strip of unknown height.
+    pub(crate) fn read_uncounted(bytes: &[u8], form: inner::StripForm) -> Result<Self, Error> {
+        let found = inner::SalvagedRows::of_uncounted(Global, bytes, form).map_err(|_| Error::Memory)?;
+        let left = Salvaged::read(found.rows_left, form.width, found.rows)?;
+        let (end_mark, fault) = (found.end == RowsEnd::Marked, Fault::of_rows(found.end));
+        Ok(Salvaged { end_mark, fault, ..left })
+    }
 }
 
 /// What is left of a page, in the order of its rows.
+///
+/// ```
+/// # let mut writer = faxpages::Writer::new(1)?;
+/// # writer.add(&faxpages::Form::new(8, 1, faxpages::Coding::Mmr), None, &[0x18], 1)?;
+/// # let file = writer.finish()?;
+/// let first = faxpages::Fax::new(&file).salvaged_rows(0)?.next();
+/// assert!(matches!(first, Some(Ok(faxpages::Left::Row(row))) if row.runs() == [3, 2, 3]));
+/// # Ok::<(), faxpages::Error>(())
+/// ```
 #[derive(Clone, Debug, PartialEq, Eq, Hash)]
 pub enum Left {
     /// A row that is found.
@@ -128,92 +134,55 @@ pub enum Left {
     Lost(Stretch),
 }
 
-/// How many rows, and how many stretches, are read at a time, at most.
-const ROWS: usize = 2048;
-
-/// What is left of a page, piece by piece: [`Fax::salvaged_rows`](crate::Fax::salvaged_rows) makes it. After an error
-/// it ends.
-#[must_use = "an iterator reads nothing before it is asked"]
-pub struct SalvagedRows<'a> {
-    file: &'a [u8],
-    width: u32,
-    place: FaxPlace,
-    runs: Vec<u32>,
-    packed: Vec<u8>,
-    lost: Vec<FaxLost>,
-    /// What the last piece has of both that was not handed out yet, and the row that is next in it.
-    piece: Piece,
-    ended: bool,
+/// The same, where the row is lent.
+enum Piece<'a> {
+    Row(LentRow<'a>),
+    Lost(Stretch),
 }
 
-/// How much of a piece was handed out.
-#[derive(Clone, Copy, Debug, Default)]
-struct Piece {
+/// What is left of a page, piece by piece: [`Fax::salvaged_rows`](crate::Fax::salvaged_rows) makes it.
+///
+/// ```
+/// # let mut writer = faxpages::Writer::new(1)?;
+/// # writer.add(&faxpages::Form::new(8, 20, faxpages::Coding::Mmr), 1, &[0; 20], 1)?;
+/// # let mut file = writer.finish()?;
+/// file[9..14].fill(0); // after the bits of eight white rows
+/// let last = faxpages::Fax::new(&file).salvaged_rows(0)?.last();
+/// assert!(matches!(last, Some(Ok(faxpages::Left::Lost(lost))) if lost.rows == 12));
+/// # Ok::<(), faxpages::Error>(())
+/// ```
+#[must_use = "an iterator reads nothing before it is asked"]
+pub struct SalvagedRows<'a> {
+    rows: inner::SalvagedRows<'a>,
+    page: u32,
+    /// The row after those that were passed, and whether the last of them is found, and not returned yet.
     row: u32,
-    end: u32,
-    found: usize,
-    stretch: usize,
-    stretches: usize,
+    waits: bool,
 }
 
 impl<'a> SalvagedRows<'a> {
-    /// Before the first row of the page of a form.
-    pub(crate) fn new(file: &'a [u8], page: u32, width: u32) -> Result<Self, Error> {
-        let stride = width.div_ceil(8) as usize;
-        Ok(SalvagedRows {
-            file,
-            width,
-            place: FaxPlace { page, ..calls::PLACE },
-            runs: filled(0, calls::RUNS)?,
-            packed: filled(0, ROWS * stride)?,
-            lost: filled(calls::LOST, ROWS)?,
-            piece: Piece::default(),
-            ended: false,
-        })
+    pub(crate) fn new(rows: inner::SalvagedRows<'a>, page: u32) -> Self {
+        SalvagedRows { rows, page, row: 0, waits: false }
     }
 
-    /// Reads the next piece.
-    fn go_on(&mut self) -> Result<(), Error> {
-        let (stride, row, mut told) = (self.width.div_ceil(8) as usize, self.place.row, calls::TOLD);
-        let status = calls::faxpages_salvage_from(
-            self.file,
-            &mut self.place,
-            &mut self.runs,
-            &mut self.packed,
-            stride,
-            &mut self.lost,
-            &mut told,
-        );
-        match status {
-            calls::DONE | calls::END => {
-                self.ended = status == calls::END;
-                self.piece = Piece { row, end: told.row, stretches: told.used, ..Piece::default() };
-                Ok(())
-            }
-            status => {
-                self.ended = true;
-                Err(refused(status, &told.fault))
+    fn next_piece(&mut self) -> Option<Piece<'_>> {
+        let mut lost: Option<Stretch> = None;
+        while !self.waits {
+            match self.rows.next_part() {
+                Some(SalvagedPart::Lost { rows, cause }) => {
+                    let first = Stretch { first: self.row, rows: 0, fault: Fault::of(cause) };
+                    lost.get_or_insert(first).rows += rows;
+                    self.row += rows;
+                }
+                Some(SalvagedPart::Found) => (self.row, self.waits) = (self.row + 1, true),
+                None => return lost.map(Piece::Lost),
             }
         }
-    }
-
-    /// What is next in the piece that was read last.
-    fn next_of_piece(&mut self) -> Option<Left> {
-        let piece = &mut self.piece;
-        if let Some(lost) = self.lost[..piece.stretches].get(piece.stretch).filter(|lost| lost.row == piece.row) {
-            piece.stretch += 1;
-            piece.row += lost.rows;
-            return Some(Left::Lost(Stretch { first: lost.row, rows: lost.rows, fault: Fault::of(lost.fault, 0) }));
+        if let Some(stretch) = lost {
+            return Some(Piece::Lost(stretch));
         }
-        if piece.row == piece.end {
-            return None;
-        }
-        let stride = self.width.div_ceil(8) as usize;
-        let packed = self.packed[piece.found * stride..][..stride].to_vec();
-        let row = Row { page: self.place.page, number: piece.row, width: self.width, packed };
-        piece.found += 1;
-        piece.row += 1;
-        Some(Left::Row(row))
+        self.waits = false;
+        Some(Piece::Row(LentRow { page: self.page, number: self.row - 1, row: self.rows.row() }))
     }
 }
 
@@ -221,25 +190,17 @@ impl Iterator for SalvagedRows<'_> {
     type Item = Result<Left, Error>;
 
     fn next(&mut self) -> Option<Self::Item> {
-        loop {
-            if let Some(left) = self.next_of_piece() {
-                return Some(Ok(left));
-            }
-            if self.ended {
-                return None;
-            }
-            if let Err(error) = self.go_on() {
-                return Some(Err(error));
-            }
-        }
+        Some(Ok(match self.next_piece()? {
+            Piece::Row(row) => Left::Row(row.to_row()),
+            Piece::Lost(stretch) => Left::Lost(stretch),
+        }))
     }
 }
 
 impl std::iter::FusedIterator for SalvagedRows<'_> {}
 
 impl fmt::Debug for SalvagedRows<'_> {
-    fn fmt(&self, to: &mut fmt::Formatter<'_>) -> fmt::Result {
-        let (page, row) = (self.place.page, self.piece.row);
-        to.debug_struct("SalvagedRows").field("page", &page).field("row", &row).finish_non_exhaustive()
+    fn fmt(&self, f: &mut fmt::Formatter<'_>) -> fmt::Result {
+        f.debug_struct("SalvagedRows").field("page", &self.page).field("row", &self.row).finish_non_exhaustive()
     }
 }

@@ -1,30 +1,29 @@
 //! Strips: rows of T.4 or T.6 data with no file around them.
 
-use crate::calls::{self, FaxFault, FaxPlace, RUNS};
-use crate::error::{fault_of, refused, Error, Invalid};
-use crate::rows::{Row, RowChanges, RowFormat, RowRuns};
-use crate::salvaged::{salvaged, salvaged_uncounted, Salvaged};
-use crate::strip_file::{StripFile, LEAST};
+use crate::inner::{self, classify_end, BitSource, Cause, Global, Items, NotesFault, NotesReader, RowsEnd, MOST_ROWS};
+use crate::rows::{Fused, LentRow};
 use crate::writer::{invalid_raster, invalid_rows};
-use crate::{filled, Coding, FillOrder, Note, NoteKind, USUAL_K};
+use crate::{Coding, Error, Fault, FillOrder, Invalid, Row, RowChanges, RowFormat, RowRuns};
+use crate::{Salvaged, StripReport, USUAL_K};
 use std::fmt;
 use std::iter::FusedIterator;
-use std::ops::Range;
 
-/// The most rows of a strip.
-pub(crate) const MOST_ROWS: u32 = 1_000_000;
-/// How many bytes of packed rows are read at a time: most rows come as changing elements.
-const BYTES: usize = 1 << 14;
 /// The most bytes of a strip.
 pub(crate) const MOST_BYTES: usize = 536_870_911;
 
 /// The form of a strip. A later version may have more fields: write `..StripForm::new(..)` after those that you name.
+///
+/// ```
+/// use faxpages::{Coding, FillOrder, StripForm};
+/// let form = StripForm { order: FillOrder::LsbFirst, ..StripForm::new(1728, Coding::Mmr) };
+/// assert_eq!((form.rows, form.aligned), (None, false));
+/// ```
 #[derive(Clone, Copy, Debug, PartialEq, Eq, Hash)]
 pub struct StripForm {
     /// The pels of a row, 1 to 65,535.
     pub width: u32,
     /// The number of rows, 1 to 1,000,000. If it is none, there are up to 1,000,000, which end at the end mark (EOFB,
-    /// RTC), or with the data, if nothing but zeros is left after a whole row: [`Strip::check`] tells which it is.
+    /// RTC), or with the data, if nothing but zeros is left after a whole row: [`Strip::check`] says which it is.
     pub rows: Option<u32>,
     /// How its rows are coded.
     pub coding: Coding,
@@ -35,7 +34,7 @@ pub struct StripForm {
 }
 
 impl StripForm {
-    /// A strip whose rows nobody counted, the highest bit first.
+    /// A strip of unknown height, the highest bit first.
     ///
     /// ```
     /// use faxpages::{Coding, StripForm};
@@ -46,35 +45,22 @@ impl StripForm {
         StripForm { width, rows: None, coding, order: FillOrder::MsbFirst, aligned: false }
     }
 
-    fn given(&self, rows: u32) -> calls::FaxStrip {
-        calls::FaxStrip {
-            width: self.width,
-            rows,
-            coding: self.coding.number(),
-            order: self.order.number(),
-            aligned: self.aligned.into(),
+    /// The form in which so many bytes are read.
+    pub(crate) fn read(&self, bytes: usize) -> Result<inner::StripForm, Error> {
+        let form = self.of_rows(self.rows.unwrap_or(MOST_ROWS) as usize)?;
+        if bytes > MOST_BYTES {
+            return Err(Invalid::StripBytes(bytes).into());
         }
+        Ok(form)
     }
 
-    /// The same with its number of rows, 0 if nobody counted them: a form that says 0 is none.
-    fn counted(&self) -> calls::FaxStrip {
-        self.given(self.rows.map_or(0, |rows| if rows == 0 { u32::MAX } else { rows }))
-    }
-
-    /// Refuses what no strip of so many bytes has.
-    fn refuse_invalid(&self, bytes: usize) -> Result<(), Error> {
-        let StripForm { width, rows, coding, aligned, .. } = *self;
-        if invalid_rows(width, rows.unwrap_or(1), coding, aligned).is_some() || bytes > MOST_BYTES {
-            return Err(self.invalid(bytes).into());
+    /// The form of so many rows.
+    fn of_rows(&self, rows: usize) -> Result<inner::StripForm, Error> {
+        if let Some(invalid) = invalid_rows(self.width, rows, self.coding, self.aligned) {
+            return Err(invalid.into());
         }
-        Ok(())
-    }
-
-    /// What of a strip of so many bytes is out of range.
-    pub(crate) fn invalid(&self, bytes: usize) -> Invalid {
-        let too_long = (bytes > MOST_BYTES).then_some(Invalid::StripBytes(bytes));
-        let rows = self.rows.unwrap_or(MOST_ROWS);
-        invalid_rows(self.width, rows, self.coding, self.aligned).or(too_long).unwrap_or(Invalid::Unknown)
+        let (coding, order) = (self.coding.inner(), self.order.inner());
+        Ok(inner::StripForm { coding, order, width: self.width, rows: rows as u32, aligned: self.aligned })
     }
 
     /// How many rows are lacking after so many; none where the form says no number.
@@ -82,114 +68,24 @@ impl StripForm {
         self.rows.map(|wanted| wanted.saturating_sub(rows))
     }
 
+    /// The fault with which the rows end after so many, if they do not end well: the next one has this fault, or there
+    /// is none. The source stands where the next one begins.
+    pub(crate) fn end(&self, source: &BitSource<'_>, rows: u32, fault: Option<inner::StripFault>) -> Option<Fault> {
+        match self.rows {
+            Some(_) => fault.map(|fault| Fault::of(Cause::Strip(fault))),
+            None => Fault::of_rows(classify_end(source, self.coding.inner(), rows, fault)),
+        }
+    }
+
+    /// The bits of a strip from one on.
+    pub(crate) fn source<'a>(&self, bytes: &'a [u8], bits: u64) -> BitSource<'a> {
+        let mut source = BitSource::new(bytes, self.order.inner());
+        source.skip(bits);
+        source
+    }
+
     fn stride(&self) -> usize {
         self.width.div_ceil(8) as usize
-    }
-}
-
-/// A strip that is read from a place on, and the rows before that which were read last.
-pub(crate) struct Reading {
-    pub(crate) form: StripForm,
-    pub(crate) place: FaxPlace,
-    runs: Vec<u32>,
-    /// The rows of the last call, the number of the first of them, and which are not handed out yet.
-    out: Vec<u8>,
-    first: u32,
-    ready: Range<usize>,
-    /// A file of the strip, and whether they were read of that.
-    file: StripFile,
-    of_file: bool,
-}
-
-/// How a call over a strip ended.
-pub(crate) enum Ended {
-    /// There may be more rows.
-    GoesOn,
-    /// More bytes have to come before the next row.
-    Awaits,
-    /// All rows were read.
-    Rows,
-    /// A fault, at the row that is due.
-    Fault(FaxFault),
-}
-
-impl Reading {
-    pub(crate) fn new(form: StripForm) -> Self {
-        let (runs, file) = (vec![0; RUNS], StripFile::new(LEAST));
-        Reading { form, place: calls::PLACE, runs, out: Vec::new(), first: 0, ready: 0..0, file, of_file: false }
-    }
-
-    /// Whether a row was read that is not handed out yet.
-    pub(crate) fn is_ready(&self) -> bool {
-        !self.ready.is_empty()
-    }
-
-    /// Puts the next of these rows in the place of another. Returns whether there is one.
-    #[inline(always)]
-    pub(crate) fn take<T: RowFormat>(&mut self, row: &mut T) -> bool {
-        let Some(at) = self.ready.next() else { return false };
-        let (width, stride) = (self.form.width, self.form.stride());
-        let told = calls::FaxRow { row: self.first + at as u32, width, ..calls::ROW };
-        if self.of_file {
-            row.put_changes(&told, self.file.changes(at));
-        } else {
-            row.put_packed(&told, &self.out[at * stride..][..stride]);
-        }
-        true
-    }
-
-    /// Reads the next rows of the strip, some thousands at most; where more bytes may follow, those that are the same
-    /// whatever they are.
-    pub(crate) fn read(&mut self, strip: &[u8], more: bool) -> Result<Ended, Error> {
-        let (stride, rows, first) = (self.form.stride().max(1), self.form.rows.unwrap_or(u32::MAX), self.place.row);
-        let count = self.file.read(strip, &self.form, &mut self.place, &mut self.runs);
-        (self.first, self.ready, self.of_file) = (first, 0..count, count > 0);
-        if self.of_file {
-            return Ok(Ended::GoesOn);
-        }
-        // Before memory is taken for rows of any width.
-        self.form.refuse_invalid(strip.len())?;
-        // A row has at least one bit.
-        let bits = strip.len().saturating_mul(8).saturating_sub(self.place.bits as usize) + 1;
-        let most = bits.min(rows.saturating_sub(first) as usize).max(1);
-        let room = (BYTES / stride).clamp(1, most) * stride;
-        if self.out.len() < room {
-            self.out = filled(0, room)?;
-        }
-        let (given, mut told) = (self.form.counted(), calls::TOLD);
-        let (place, runs, out) = (&mut self.place, &mut self.runs, &mut self.out[..room]);
-        let status = if more {
-            calls::faxpages_strip_part(strip, &given, place, runs, out, stride, &mut told)
-        } else {
-            calls::faxpages_strip_rows(strip, &given, place, runs, out, stride, &mut told)
-        };
-        self.ready = 0..told.count;
-        match status {
-            calls::DONE if self.place.row < rows => Ok(Ended::GoesOn),
-            calls::DONE | calls::END | calls::DATA_END => Ok(Ended::Rows),
-            calls::MORE => Ok(Ended::Awaits),
-            calls::FAULT => Ok(Ended::Fault(told.fault)),
-            calls::NO_OPTIONS => Err(self.form.invalid(strip.len()).into()),
-            status => Err(refused(status, &told.fault)),
-        }
-    }
-
-    /// How many whole bytes of zeros stand after the byte of the place, if nothing but zeros stands in the rest of that.
-    pub(crate) fn fill_after(&self, strip: &[u8]) -> usize {
-        let mask = match self.form.order {
-            FillOrder::MsbFirst => 0xFF >> self.place.bits,
-            FillOrder::LsbFirst => 0xFF << self.place.bits,
-        };
-        match strip.split_first() {
-            Some((first, rest)) if first & mask == 0 => rest.iter().take_while(|byte| **byte == 0).count(),
-            _ => 0,
-        }
-    }
-}
-
-impl fmt::Debug for Reading {
-    fn fmt(&self, f: &mut fmt::Formatter<'_>) -> fmt::Result {
-        f.debug_struct("Reading").field("form", &self.form).field("row", &self.place.row).finish_non_exhaustive()
     }
 }
 
@@ -210,12 +106,24 @@ pub struct Strip<'a> {
 
 impl<'a> Strip<'a> {
     /// The strip of these bytes, at most 536,870,911. Nothing is read yet.
+    ///
+    /// ```
+    /// use faxpages::{Coding, Strip, StripForm};
+    /// assert_eq!(Strip::new(&[0x80, 0x08, 0x00, 0x80], StripForm::new(8, Coding::Mmr)).rows().count(), 1);
+    /// ```
     #[must_use]
     pub const fn new(bytes: &'a [u8], form: StripForm) -> Self {
         Strip { bytes, form }
     }
 
     /// Its rows, whose page is 0, and the error that ends them. [`Error::Invalid`] where the form is none.
+    ///
+    /// ```
+    /// use faxpages::{Coding, Strip, StripForm};
+    /// let strip = Strip::new(&[0x2F, 0xF8], StripForm { rows: Some(2), ..StripForm::new(8, Coding::Mmr) });
+    /// assert_eq!(strip.rows().next().unwrap()?.packed, [0b0011_0000]);
+    /// # Ok::<(), faxpages::Error>(())
+    /// ```
     pub fn rows(&self) -> StripRows<'a> {
         StripRows::new(self)
     }
@@ -234,13 +142,35 @@ impl<'a> Strip<'a> {
     }
 
     /// The same as changing elements.
+    ///
+    /// ```
+    /// use faxpages::{Coding, Strip, StripForm};
+    /// let strip = Strip::new(&[0x2F, 0xF8], StripForm { rows: Some(2), ..StripForm::new(8, Coding::Mmr) });
+    /// assert_eq!(strip.changes().next().unwrap()?.changes, [2, 4]);
+    /// # Ok::<(), faxpages::Error>(())
+    /// ```
     pub fn changes(&self) -> StripRows<'a, RowChanges> {
         StripRows::new(self)
     }
 
+    /// The same, each lent: no memory is taken for it.
+    ///
+    /// ```
+    /// use faxpages::{Coding, Strip, StripForm};
+    /// let strip = Strip::new(&[0x2F, 0xF8], StripForm { rows: Some(2), ..StripForm::new(8, Coding::Mmr) });
+    /// let mut rows = strip.lend_rows();
+    /// while let Some(row) = rows.next()? {
+    ///     assert!(row.runs().eq([2, 2, 4]));
+    /// }
+    /// # Ok::<(), faxpages::Error>(())
+    /// ```
+    pub fn lend_rows(&self) -> LentStripRows<'a> {
+        LentStripRows { strip: *self, reader: None }
+    }
+
     /// What is left of it, however it is damaged: each row that stands between its EOLs, and each stretch of rows that
-    /// are lost. If nobody counted the rows, they go up to an end mark, to the end of the data, or to a lost row after
-    /// which no EOL is left, and there is room for all of them: 3 MB of data can have 1,000,000 rows.
+    /// are lost. If its height is unknown, the rows go up to an end mark, to the end of the data, or to a lost row
+    /// after which no EOL is left, and there is room for all of them: 3 MB of data can have 1,000,000 rows.
     ///
     /// # Errors
     ///
@@ -254,24 +184,19 @@ impl<'a> Strip<'a> {
     /// # Ok::<(), faxpages::Error>(())
     /// ```
     pub fn salvaged(&self) -> Result<Salvaged, Error> {
-        self.form.refuse_invalid(self.bytes.len())?;
-        let StripForm { width, rows, .. } = self.form;
-        let form = self.form.given(rows.unwrap_or(0));
-        let call = &mut |out: &mut [u8], stride, lost: &mut [calls::FaxLost], told: &mut calls::FaxTold| {
-            calls::faxpages_salvage_strip(self.bytes, &form, out, stride, lost, told)
-        };
-        match rows {
-            Some(rows) => salvaged(width, rows, call),
-            None => salvaged_uncounted(width, call),
+        let form = self.form.read(self.bytes.len())?;
+        if self.form.rows.is_none() {
+            return Salvaged::read_uncounted(self.bytes, form);
         }
+        let rows = inner::SalvagedRows::of_strip(Global, self.bytes, form).map_err(Error::memory)?;
+        Salvaged::read(rows, form.width, form.rows)
     }
 
     /// Reads all rows, and reports what stands after them.
     ///
     /// # Errors
     ///
-    /// [`Error::Invalid`] where the form is none or the strip too long, or [`Error::Memory`]. A fault is told in the
-    /// report.
+    /// [`Error::Invalid`] where the form is none or the strip too long, or [`Error::Memory`]. A fault is in the report.
     ///
     /// ```
     /// use faxpages::{Coding, Strip, StripForm};
@@ -280,72 +205,120 @@ impl<'a> Strip<'a> {
     /// # Ok::<(), faxpages::Error>(())
     /// ```
     pub fn check(&self) -> Result<StripReport, Error> {
-        let (given, mut report) = (self.form.counted(), calls::STRIP_REPORT);
-        match calls::faxpages_strip_check(self.bytes, &given, &mut report) {
-            calls::END | calls::DATA_END => Ok(self.report(&report, None)),
-            calls::FAULT => Ok(self.report(&report, Some(report.fault))),
-            calls::NO_OPTIONS => Err(self.form.invalid(self.bytes.len()).into()),
-            status => Err(refused(status, &report.fault)),
+        let form = self.form.read(self.bytes.len())?;
+        let mut reader = NotesReader::new(Global, form.width).map_err(Error::memory)?;
+        if self.form.rows.is_none() {
+            let found = reader.uncounted_notes(self.bytes, form).map_err(Error::memory)?;
+            return Ok(StripReport::of(&self.form, found.rows, Some(found.notes), found.end));
         }
-    }
-
-    fn report(&self, told: &calls::FaxStripReport, fault: Option<FaxFault>) -> StripReport {
-        let end_mark = match self.form.coding {
-            Coding::Mmr => told.no_end_of_block == 0,
-            Coding::Mh | Coding::Mr => told.return_to_control == 1,
-        };
-        let notes = [
-            (NoteKind::NoEndOfBlock, told.no_end_of_block),
-            (NoteKind::ReturnToControl, told.return_to_control),
-            (NoteKind::DataAfterEnd, told.data_after_end),
-            (NoteKind::NotT4Choice, told.not_t4_choice),
-        ];
-        let noted = notes.into_iter().filter(|(_, noted)| *noted == 1);
-        StripReport {
-            rows: told.rows,
-            lost: self.form.lost(told.rows),
-            end_mark: end_mark && fault.is_none(),
-            notes: noted.map(|(kind, _)| Note { page: 0, strip: Some(0), kind }).collect(),
-            fault: fault.as_ref().map(fault_of),
+        match reader.notes(self.bytes, form) {
+            Ok(notes) => Ok(StripReport::of(&self.form, form.rows, Some(notes), RowsEnd::DataEnd)),
+            Err(NotesFault::Strip { row, fault }) => Ok(StripReport::of(&self.form, row, None, RowsEnd::Fault(fault))),
+            Err(NotesFault::Memory) => Err(Error::Memory),
         }
     }
 }
 
-/// What a check found in a strip.
-#[derive(Clone, Debug, PartialEq, Eq, Hash)]
-#[non_exhaustive]
-pub struct StripReport {
-    /// How many rows were read.
-    pub rows: u32,
-    /// How many rows are lacking after these; none where the form says no number.
-    pub lost: Option<u32>,
-    /// Whether the end mark stands after the last row: EOFB in MMR, RTC in MH and MR.
-    pub end_mark: bool,
-    /// What may trouble other readers; none where there is a fault.
-    pub notes: Vec<Note>,
-    /// The fault, after which nothing was read.
-    pub fault: Option<Error>,
+/// Rows of a strip that are lent: [`Strip::lend_rows`] makes it.
+///
+/// ```
+/// use faxpages::{Coding, Strip, StripForm};
+/// let strip = Strip::new(&[0x2F, 0xF8], StripForm { rows: Some(2), ..StripForm::new(8, Coding::Mmr) });
+/// let (mut rows, mut black) = (strip.lend_rows(), 0);
+/// while let Some(row) = rows.next()? {
+///     black += row.runs().skip(1).step_by(2).sum::<u32>();
+/// }
+/// assert_eq!(black, 4);
+/// # Ok::<(), faxpages::Error>(())
+/// ```
+#[must_use = "nothing is read before it is asked"]
+pub struct LentStripRows<'a> {
+    strip: Strip<'a>,
+    reader: Option<inner::StripReader<'a>>,
+}
+
+impl LentStripRows<'_> {
+    /// The next row, or none after the last one. It stands until the next call, and takes no memory.
+    ///
+    /// # Errors
+    ///
+    /// Why there is no next row. Each later call returns it again.
+    ///
+    /// ```
+    /// use faxpages::{Coding, Strip, StripForm};
+    /// let strip = Strip::new(&[0xFF, 0, 0, 0], StripForm { rows: Some(20), ..StripForm::new(8, Coding::Mmr) });
+    /// let (mut rows, mut count) = (strip.lend_rows(), 0);
+    /// let ended = loop {
+    ///     match rows.next() {
+    ///         Ok(Some(_)) => count += 1,
+    ///         Ok(None) => break None,
+    ///         Err(error) => break Some(error.to_string()),
+    ///     }
+    /// };
+    /// assert_eq!((count, ended.as_deref()), (8, Some("page 0 row 8: EndMarker")));
+    /// # Ok::<(), faxpages::Error>(())
+    /// ```
+    // It is no iterator: what an iterator returns outlives the next call.
+    #[allow(clippy::should_implement_trait)]
+    #[inline]
+    pub fn next(&mut self) -> Result<Option<LentRow<'_>>, Error> {
+        let reader = match &mut self.reader {
+            Some(reader) => reader,
+            none => none.insert(self.strip.reader()?),
+        };
+        match reader.advance() {
+            Ok(true) => Ok(Some(LentRow { page: 0, number: reader.row() - 1, row: reader.reference() })),
+            Ok(false) => self.strip.end(reader, None),
+            Err(fault) => self.strip.end(reader, Some(fault)),
+        }
+    }
+
+    fn rows(&self) -> u32 {
+        self.reader.as_ref().map_or(0, inner::StripReader::row)
+    }
+}
+
+impl<'a> Strip<'a> {
+    fn reader(&self) -> Result<inner::StripReader<'a>, Error> {
+        let form = self.form.read(self.bytes.len())?;
+        inner::StripReader::new(Global, self.bytes, form).map_err(Error::memory)
+    }
+
+    /// How the rows end where a reader stands.
+    #[cold]
+    fn end<R>(&self, reader: &inner::StripReader<'_>, fault: Option<inner::StripFault>) -> Result<Option<R>, Error> {
+        let (row, source) = (reader.row(), self.form.source(self.bytes, reader.bit_place()));
+        let fault = self.form.end(&source, row, fault);
+        fault.map_or(Ok(None), |fault| Err(Error::Fault { page: 0, row, fault }))
+    }
+}
+
+impl fmt::Debug for LentStripRows<'_> {
+    fn fmt(&self, f: &mut fmt::Formatter<'_>) -> fmt::Result {
+        f.debug_struct("LentStripRows").field("strip", &self.strip).field("rows", &self.rows()).finish_non_exhaustive()
+    }
 }
 
 /// The rows of a strip, and the error that ends them.
+///
+/// ```
+/// use faxpages::{Coding, Strip, StripForm};
+/// let strip = Strip::new(&[0x2F, 0xF8], StripForm { rows: Some(2), ..StripForm::new(8, Coding::Mmr) });
+/// assert!(strip.rows().all(|row| row.is_ok_and(|row| row.packed == [0b0011_0000])));
+/// ```
 #[must_use = "an iterator reads nothing before it is asked"]
 #[derive(Debug)]
 pub struct StripRows<'a, T: RowFormat = Row> {
-    strip: &'a [u8],
-    reading: Reading,
-    /// How many were handed out.
-    rows: u32,
-    ended: Option<Option<Error>>,
-    /// The row that was lent last.
-    lent: T,
+    rows: LentStripRows<'a>,
+    state: Fused<T>,
 }
 
 impl<'a, T: RowFormat> StripRows<'a, T> {
     fn new(strip: &Strip<'a>) -> Self {
-        StripRows { strip: strip.bytes, reading: Reading::new(strip.form), rows: 0, ended: None, lent: T::NONE }
+        StripRows { rows: strip.lend_rows(), state: Fused::NEW }
     }
 
-    /// The next row, as the iterator has it, but lent: no memory is taken for it, and it stands until the next call.
+    /// The next row, as the iterator has it, but lent: it stands until the next call, in the memory of the one before.
     ///
     /// ```
     /// use faxpages::{Coding, Strip, StripForm};
@@ -356,60 +329,30 @@ impl<'a, T: RowFormat> StripRows<'a, T> {
     /// }
     /// # Ok::<(), faxpages::Error>(())
     /// ```
+    #[inline]
     pub fn next_row(&mut self) -> Option<Result<&T, Error>> {
-        let mut row = std::mem::replace(&mut self.lent, T::NONE);
-        let found = self.put_next(&mut row);
-        self.lent = row;
-        Some(found?.map(|()| &self.lent))
+        self.state.lend(self.rows.next())
     }
 
-    /// Puts the next row in the place of another.
-    #[inline(always)]
-    fn put_next(&mut self, row: &mut T) -> Option<Result<(), Error>> {
-        if !self.reading.is_ready() {
-            self.read_on();
-        }
-        if self.reading.take(row) {
-            self.rows += 1;
-            return Some(Ok(()));
-        }
-        self.ended.as_mut()?.take().map(Err)
-    }
-
-    /// Reads the next rows, if they have not ended.
-    #[cold]
-    #[inline(never)]
-    fn read_on(&mut self) {
-        if self.ended.is_none() {
-            self.ended = match self.reading.read(self.strip, false) {
-                Ok(Ended::GoesOn | Ended::Awaits) => None,
-                Ok(Ended::Rows) => Some(None),
-                Ok(Ended::Fault(fault)) => Some(Some(fault_of(&fault))),
-                Err(error) => Some(Some(error)),
-            };
-        }
-    }
-
-    /// How many rows are lacking after those that were handed out; none where the form says no number.
+    /// How many rows are lacking after those that were returned; none where the form says no number.
     ///
     /// ```
     /// use faxpages::{Coding, Strip, StripForm};
     /// let form = StripForm { rows: Some(100), ..StripForm::new(8, Coding::Mmr) };
-    /// let mut rows = Strip::new(&[0xC0], form).rows();
-    /// assert_eq!(rows.by_ref().filter_map(Result::ok).count(), 2);
-    /// assert_eq!(rows.lost(), Some(98));
+    /// let mut rows = Strip::new(&[0x2F, 0xF8], form).rows();
+    /// assert_eq!((rows.by_ref().filter(Result::is_ok).count(), rows.lost()), (2, Some(98)));
     /// ```
     pub fn lost(&self) -> Option<u32> {
-        self.reading.form.lost(self.rows)
+        self.rows.strip.form.lost(self.rows.rows())
     }
 }
 
 impl<T: RowFormat> Iterator for StripRows<'_, T> {
     type Item = Result<T, Error>;
 
+    #[inline]
     fn next(&mut self) -> Option<Self::Item> {
-        let mut row = T::NONE;
-        Some(self.put_next(&mut row)?.map(|()| row))
+        self.state.own(self.rows.next())
     }
 }
 
@@ -418,7 +361,8 @@ impl<T: RowFormat> FusedIterator for StripRows<'_, T> {}
 /// Codes the rows of a raster as a strip, in the codes that T.4 and T.6 choose: row i stands in the (width + 7) / 8
 /// bytes from `raster[i * stride]` on, the highest bit first, 1 for black, whatever stands after its pels. Where the
 /// form says no number of rows, all that the raster has are coded. In MR one row in every k is coded by itself; k is at
-/// least 1, and 4 where it is none. After the last row stands the end of the block (EOFB) in MMR, and nothing in MH and MR.
+/// least 1, and 4 where it is none. After the last row stands the end of the block (EOFB) in MMR, and nothing in MH and
+/// MR.
 ///
 /// # Errors
 ///
@@ -436,18 +380,17 @@ pub fn code_strip(
     raster: &[u8],
     stride: usize,
 ) -> Result<Vec<u8>, Error> {
-    let (row, k) = (form.stride(), k.into().unwrap_or(USUAL_K));
-    let too_short = || invalid_raster(k, raster.len(), stride, row, form.rows.unwrap_or(1)).unwrap_or(Invalid::Unknown);
-    let counted = raster.len().checked_sub(row).ok_or_else(too_short)?.checked_div(stride);
-    let rows = form.rows.map_or(counted.map_or(0, |before| before + 1), |rows| rows as usize);
-    let rows = u32::try_from(rows).map_err(|_| Invalid::Rows(rows))?;
-    let given = form.given(rows);
-    let invalid = || {
-        let of_raster = || invalid_raster(k, raster.len(), stride, row, rows).unwrap_or(Invalid::Unknown);
-        invalid_rows(form.width, rows, form.coding, form.aligned).unwrap_or_else(of_raster)
+    let (len, k) = (form.stride(), k.into().unwrap_or(USUAL_K));
+    let rows = match (form.rows, raster.len().checked_sub(len)) {
+        (Some(rows), _) => rows as usize,
+        (None, Some(left)) => left.checked_div(stride).map_or(0, |before| before + 1),
+        (None, None) => 1,
     };
-    let code = |out: &mut [u8], len: &mut usize| calls::faxpages_strip_code(&given, k, raster, stride, out, len);
-    coded(raster.len() / 4, code, invalid)
+    let given = form.of_rows(rows)?;
+    if let Some(invalid) = invalid_raster(k, raster.len(), stride, len, given.rows) {
+        return Err(invalid.into());
+    }
+    Ok(code_raster(given, k, raster, stride)?.to_vec())
 }
 
 /// The same with rows as runs, as [`RowRuns`](crate::RowRuns) has them: their lengths in pels, white first. Where the
@@ -469,140 +412,53 @@ pub fn code_strip_runs<R: AsRef<[u32]>>(
     k: impl Into<Option<u32>>,
     rows: &[R],
 ) -> Result<Vec<u8>, Error> {
-    let (mut table, mut runs, k) = (Vec::new(), Vec::new(), k.into().unwrap_or(USUAL_K));
-    for (row, number) in rows.iter().zip(0..) {
-        let len = u32::try_from(row.as_ref().len()).map_err(|_| Invalid::Runs(number))?;
-        table.push(calls::FaxRow { at: runs.len(), len, ..calls::ROW });
-        runs.extend_from_slice(row.as_ref());
+    let (k, given) = (k.into().unwrap_or(USUAL_K), rows.len());
+    let form = form.of_rows(form.rows.map_or(given, |rows| rows as usize))?;
+    if k == 0 {
+        return Err(Invalid::K.into());
     }
-    let wanted = form.rows.map_or(u32::try_from(rows.len()), Ok).map_err(|_| Invalid::Rows(rows.len()))?;
-    let given = form.given(wanted);
-    let invalid = || {
-        let few = (rows.len() < wanted as usize).then_some(Invalid::FewRows { given: rows.len(), wanted });
-        let wrong = || rows.iter().position(|row| !are_longest(row.as_ref(), form.width)).map(Invalid::Runs);
-        let of_rows = invalid_rows(form.width, wanted, form.coding, form.aligned);
-        of_rows.or((k == 0).then_some(Invalid::K)).or(few).or_else(wrong).unwrap_or(Invalid::Unknown)
+    if given < form.rows as usize {
+        return Err(Invalid::FewRows { given, wanted: form.rows }.into());
+    }
+    let take = |row: &mut inner::Row, number: usize| match row.set_runs(rows[number].as_ref()) {
+        true => Ok(()),
+        false => Err(Invalid::Runs(number).into()),
     };
-    let code = |out: &mut [u8], len: &mut usize| calls::faxpages_strip_code_runs(&given, k, &table, &runs, out, len);
-    coded(runs.len(), code, invalid)
+    Ok(code_rows(form, k, take)?.to_vec())
 }
 
-/// Whether runs are the longest ones of a row of a width: only the first may be 0.
-fn are_longest(runs: &[u32], width: u32) -> bool {
-    let sum: u64 = runs.iter().map(|run| u64::from(*run)).sum();
-    sum == u64::from(width) && !runs.iter().skip(1).any(|run| *run == 0)
+/// The first rows of a raster as a strip.
+pub(crate) fn code_raster(form: inner::StripForm, k: u32, raster: &[u8], stride: usize) -> Result<Items<u8>, Error> {
+    let len = form.width.div_ceil(8) as usize;
+    code_rows(form, k, |row, number| {
+        row.set_packed(&raster[number * stride..][..len]);
+        Ok(())
+    })
 }
 
-/// What a call writes, which tells its length where it has no room, or what is out of range.
-fn coded(
-    room: usize,
-    code: impl Fn(&mut [u8], &mut usize) -> u32,
-    invalid: impl Fn() -> Invalid,
-) -> Result<Vec<u8>, Error> {
-    let mut out = filled(0, room + 64)?;
-    loop {
-        let mut len = 0;
-        match code(&mut out, &mut len) {
-            calls::DONE => {
-                out.truncate(len);
-                return Ok(out);
-            }
-            calls::NO_ROOM => out = filled(0, len)?,
-            calls::NO_OPTIONS => return Err(invalid().into()),
-            status => return Err(refused(status, &calls::NO_FAULT)),
-        }
+/// A strip of rows, each of which is taken by its number.
+fn code_rows(
+    form: inner::StripForm,
+    k: u32,
+    mut take: impl FnMut(&mut inner::Row, usize) -> Result<(), Error>,
+) -> Result<Items<u8>, Error> {
+    let mut row = inner::Row::white(Global, form.width).map_err(Error::memory)?;
+    let mut writer = inner::StripWriter::new(Global, form, k).map_err(Error::memory)?;
+    for number in 0..form.rows as usize {
+        take(&mut row, number)?;
+        writer.put_row(&row).map_err(Error::memory)?;
     }
+    writer.finish().map_err(Error::memory)
 }
 
 #[cfg(test)]
 mod tests {
-    use super::{calls, code_strip, Coding, Ended, Error, FillOrder, Invalid, Reading, Row, RowChanges, RowRuns};
-    use super::{StripFile, StripForm};
-    use crate::format::Format;
-    use crate::strip_file::LEAST;
-
-    /// Numbers that look drawn: the same each time.
-    fn below(drawn: &mut u64, most: u64) -> u64 {
-        *drawn = drawn.wrapping_mul(6_364_136_223_846_793_005).wrapping_add(1_442_695_040_888_963_407);
-        (*drawn >> 33) % most
-    }
-
-    /// A drawn strip of rows like the one above them, often damaged or cut, and a form in which it is read.
-    fn drawn_strip(drawn: &mut u64) -> (StripForm, Vec<u8>) {
-        let width = [8, 131, 1728, 6000][below(drawn, 4) as usize];
-        let coding = [Coding::Mh, Coding::Mr, Coding::Mmr][below(drawn, 3) as usize];
-        let order = [FillOrder::MsbFirst, FillOrder::LsbFirst][below(drawn, 2) as usize];
-        let (most, aligned) = (if width < 999 { 900 } else { 120 }, coding != Coding::Mmr && below(drawn, 2) == 0);
-        let rows = 1 + below(drawn, most);
-        let form = StripForm { order, aligned, rows: Some(rows as u32), ..StripForm::new(width, coding) };
-        let (stride, mut raster) = (form.stride(), vec![0; rows as usize * form.stride()]);
-        let alike = [2, 50, 50, 50][below(drawn, 4) as usize];
-        for at in stride..raster.len() {
-            let other = below(drawn, alike) == 0;
-            raster[at] = if other { below(drawn, 256) as u8 } else { raster[at - stride] };
-        }
-        let mut strip = code_strip(&form, 3, &raster, stride).unwrap();
-        for _ in 0..[0, 0, 1, 3][below(drawn, 4) as usize] {
-            let at = below(drawn, strip.len() as u64) as usize;
-            strip[at] ^= 1 << below(drawn, 8);
-        }
-        let (len, rows) = (strip.len(), rows as u32);
-        strip.truncate([len, len, len, below(drawn, len as u64 + 1) as usize][below(drawn, 4) as usize]);
-        let rows = [None, Some(1), Some(rows), Some(rows + 9)][below(drawn, 4) as usize];
-        (StripForm { rows, ..form }, strip)
-    }
-
-    type Told = (Vec<(Row, RowRuns, RowChanges)>, String, (u32, u32, Vec<u32>));
-
-    /// All rows of a strip in each format, how they end, and the place after them.
-    fn told(form: StripForm, strip: &[u8], more: bool, least: usize) -> (usize, Told) {
-        let mut reading = Reading::new(form);
-        reading.file = StripFile::new(least);
-        let (mut rows, mut of_file) = (Vec::new(), 0);
-        loop {
-            let ended = reading.read(strip, more);
-            of_file += if reading.of_file { reading.ready.len() } else { 0 };
-            while let Some(at) = reading.ready.clone().next() {
-                let mut row = (Row::NONE, RowRuns::NONE, RowChanges::NONE);
-                reading.take(&mut row.0);
-                reading.ready.start = at;
-                reading.take(&mut row.1);
-                reading.ready.start = at;
-                reading.take(&mut row.2);
-                rows.push(row);
-            }
-            let ended = match ended {
-                Ok(Ended::GoesOn) => continue,
-                Ok(Ended::Awaits) => "more".to_string(),
-                Ok(Ended::Rows) => "rows".to_string(),
-                Ok(Ended::Fault(calls::FaxFault { number, page, row, .. })) => format!("{number} {page} {row}"),
-                Err(error) => error.to_string(),
-            };
-            let (place, runs) = (reading.place, &reading.runs[..reading.place.runs as usize]);
-            return (of_file, (rows, ended, (place.row, place.bits, runs.to_vec())));
-        }
-    }
-
-    #[test]
-    fn a_file_of_a_strip_has_its_rows() {
-        let (mut drawn, mut counts, mut ends) = (5, [0; 2], std::collections::HashSet::new());
-        for number in 0..50 {
-            let (form, strip) = drawn_strip(&mut drawn);
-            let (of_file, by_file) = told(form, &strip, number % 2 == 1, LEAST);
-            let (none, by_calls) = told(form, &strip, number % 2 == 1, usize::MAX);
-            assert!(by_file == by_calls, "strip {number}: {form:?}, {:?}, {:?}", by_file.1, by_calls.1);
-            counts = [counts[0] + of_file, counts[1] + by_calls.0.len()];
-            ends.insert(by_calls.1);
-            assert_eq!(none, 0);
-        }
-        assert!(counts[0] + 100 > counts[1] && ends.len() > 9, "{counts:?}, {ends:?}");
-    }
+    use super::{Coding, Error, Invalid, Strip, StripForm};
 
     #[test]
     fn no_memory_is_taken_for_rows_of_a_width_that_none_has() {
-        let mut reading = Reading::new(StripForm::new(u32::MAX, Coding::Mmr));
-        let refused = reading.read(&[0x80], false).err();
-        assert_eq!(refused, Some(Error::Invalid(Invalid::Width(u32::MAX))));
-        assert_eq!(reading.out.capacity(), 0);
+        let mut rows = Strip::new(&[0x80], StripForm::new(u32::MAX, Coding::Mmr)).lend_rows();
+        assert_eq!(rows.next().err(), Some(Error::Invalid(Invalid::Width(u32::MAX))));
+        assert!(rows.reader.is_none());
     }
 }

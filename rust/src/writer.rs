@@ -1,12 +1,14 @@
 //! Files that are written page by page.
 
-use crate::calls::{self, FaxForm, FaxWritten};
-use crate::error::{refused, Error, Invalid};
-use crate::{filled, Coding, Form, MOST_OUTPUT, USUAL_K};
+use crate::inner::{self, put_totals, write_page, Global, Items, WriteFault};
+use crate::strip::code_raster;
+use crate::{Coding, Error, Form, Invalid, USUAL_K};
 use std::fmt;
 
 /// The most pages of a file.
 const MOST_PAGES: u32 = 65_535;
+/// How a file begins: with the lowest byte of a number, and the place of the first directory, which is written later.
+const HEADER: [u8; 8] = *b"II*\0\0\0\0\0";
 
 /// A TIFF-F file that is written page by page, in memory.
 ///
@@ -28,13 +30,17 @@ const MOST_PAGES: u32 = 65_535;
 #[derive(Clone)]
 pub struct Writer {
     file: Vec<u8>,
-    written: FaxWritten,
+    /// Where in it the offset of the next page's directory stands.
+    link: usize,
+    /// How many pages it will have, or 0 where that is unknown.
+    total: u32,
+    added: u32,
 }
 
 impl fmt::Debug for Writer {
     fn fmt(&self, f: &mut fmt::Formatter<'_>) -> fmt::Result {
-        let FaxWritten { len, total, added, .. } = self.written;
-        f.debug_struct("Writer").field("len", &len).field("total", &total).field("added", &added).finish()
+        let Writer { file, total, added, .. } = self;
+        f.debug_struct("Writer").field("len", &file.len()).field("total", total).field("added", added).finish()
     }
 }
 
@@ -44,17 +50,19 @@ impl Writer {
     /// # Errors
     ///
     /// [`Invalid::NoPage`] for no page, and [`Error::OutputTooLarge`] for more than 65,535.
+    ///
+    /// ```
+    /// assert_eq!(faxpages::Writer::new(0).unwrap_err(), faxpages::Invalid::NoPage.into());
+    /// ```
     pub fn new(pages: u32) -> Result<Self, Error> {
         match pages {
             0 => Err(Invalid::NoPage.into()),
-            1..=MOST_PAGES => {
-                Ok(Writer { file: filled(0, 4096)?, written: FaxWritten { total: pages, ..calls::WRITTEN } })
-            }
+            1..=MOST_PAGES => Ok(Writer { file: Vec::new(), link: 4, total: pages, added: 0 }),
             _ => Err(Error::OutputTooLarge),
         }
     }
 
-    /// A file of which nobody knows how many pages it will have, up to 65,535: [`Writer::finish`] tells each of them.
+    /// A file whose number of pages is unknown so far, up to 65,535: [`Writer::finish`] writes it into each of them.
     /// Until then they say that the number is not available.
     ///
     /// ```
@@ -69,21 +77,29 @@ impl Writer {
     ///
     /// # Errors
     ///
-    /// [`Error::Memory`].
+    /// None in this version.
     pub fn uncounted() -> Result<Self, Error> {
-        Ok(Writer { file: filled(0, 4096)?, written: calls::WRITTEN })
+        Ok(Writer { file: Vec::new(), link: 4, total: 0, added: 0 })
     }
 
     /// Adds a page of this form, coded from a raster: row i stands in the [`Form::stride`] bytes from `raster[i *
     /// stride]` on, the highest bit first, 1 for black, whatever stands after its pels. In MR one row in every k is
-    /// coded by itself; k is at least 1, and 4 where it is none. `page`, `strips` and `exchanged` of the form do not matter, and
-    /// `rows_per_strip` of 0, or of more than its rows, is one strip.
+    /// coded by itself; k is at least 1, and 4 where it is none. `page`, `strips` and `exchanged` of the form do not
+    /// matter, and `rows_per_strip` of 0, or of more than its rows, is one strip.
     ///
     /// # Errors
     ///
     /// [`Error::Invalid`] if the form is invalid, k is 0, the raster is too short, or the file has all its pages;
     /// [`Error::OutputTooLarge`] where it would have more than 268,435,456 bytes; or [`Error::Memory`]. Then the file
     /// is what it was.
+    ///
+    /// ```
+    /// use faxpages::{Coding, Form, Writer};
+    /// let mut writer = Writer::new(1)?;
+    /// writer.add(&Form::new(8, 2, Coding::Mmr), None, &[0x18, 0xFC], 1)?;
+    /// assert_eq!(writer.pages(), 1);
+    /// # Ok::<(), faxpages::Error>(())
+    /// ```
     pub fn add(
         &mut self,
         form: &Form,
@@ -91,50 +107,71 @@ impl Writer {
         raster: &[u8],
         stride: usize,
     ) -> Result<(), Error> {
-        let (given, k) = (given(form), k.into().unwrap_or(USUAL_K));
-        loop {
-            let status = calls::faxpages_add_page(&given, k, raster, stride, &mut self.file, &mut self.written);
-            match status {
-                calls::DONE => return Ok(()),
-                calls::NO_ROOM if self.file.len() < MOST_OUTPUT => self.grow(raster.len())?,
-                calls::NO_ROOM => return Err(Error::OutputTooLarge),
-                calls::NO_OPTIONS => return Err(self.invalid(form, k, raster.len(), stride).into()),
-                status => return Err(refused(status, &calls::NO_FAULT)),
-            }
+        let (page, k) = (form.written(), k.into().unwrap_or(USUAL_K));
+        if let Some(invalid) = self.invalid(form, k, raster.len(), stride) {
+            return Err(invalid.into());
         }
+        let mut strips = Vec::new();
+        for strip in 0..page.strips {
+            let first = (strip * page.rows_per_strip) as usize * stride;
+            strips.push(code_raster(page.strip_form(strip), k, &raster[first..], stride)?);
+        }
+        self.put(&page, &strips)
     }
 
-    /// What of a page is out of range.
-    fn invalid(&self, form: &Form, k: u32, len: usize, stride: usize) -> Invalid {
-        let pages = if self.written.total == 0 { MOST_PAGES } else { self.written.total };
-        if self.written.added == pages {
-            return Invalid::AllPages(pages);
+    /// Appends a page of these strips.
+    fn put(&mut self, form: &inner::PageForm, strips: &[Items<u8>]) -> Result<(), Error> {
+        let start = self.file.len().max(HEADER.len()) as u32;
+        let (number, total) = (self.added as u16, self.total as u16);
+        let page = write_page(Global, form, strips, start, number, total).map_err(|fault| match fault {
+            WriteFault::Memory => Error::Memory,
+            WriteFault::OutputTooLarge => Error::OutputTooLarge,
+        })?;
+        self.file.try_reserve(HEADER.len() + page.bytes.len()).map_err(Error::memory)?;
+        if self.added == 0 {
+            self.file.extend_from_slice(&HEADER);
         }
-        let resolutions = [form.x, form.y].into_iter().find(|(numerator, denominator)| *numerator == 0 || *denominator == 0);
-        invalid_rows(form.width, form.rows, form.coding, form.aligned)
-            .or(resolutions.map(|(numerator, denominator)| Invalid::Resolution(numerator, denominator)))
-            .or_else(|| invalid_raster(k, len, stride, form.stride(), form.rows))
-            .unwrap_or(Invalid::Unknown)
-    }
-
-    /// Makes more room: at least twice as much.
-    fn grow(&mut self, wanted: usize) -> Result<(), Error> {
-        let room = self.file.len().saturating_add(self.file.len().max(wanted)).min(MOST_OUTPUT);
-        self.file.try_reserve_exact(room - self.file.len()).map_err(|_| Error::Memory)?;
-        self.file.resize(room, 0);
+        self.file[self.link..self.link + 4].copy_from_slice(&page.directory.to_le_bytes());
+        self.file.extend_from_slice(&page.bytes);
+        (self.link, self.added) = (page.link as usize, self.added + 1);
         Ok(())
     }
 
+    /// What of a page is out of range.
+    fn invalid(&self, form: &Form, k: u32, len: usize, stride: usize) -> Option<Invalid> {
+        let pages = if self.total == 0 { MOST_PAGES } else { self.total };
+        if self.added == pages {
+            return Some(Invalid::AllPages(pages));
+        }
+        let resolution = [form.x, form.y].into_iter().find(|(pels, units)| *pels == 0 || *units == 0);
+        invalid_rows(form.width, form.rows as usize, form.coding, form.aligned)
+            .or(resolution.map(|(pels, units)| Invalid::Resolution(pels, units)))
+            .or_else(|| invalid_raster(k, len, stride, form.stride(), form.rows))
+    }
+
     /// The file so far, which is a whole one once a page was added.
+    ///
+    /// ```
+    /// use faxpages::{Coding, Fax, Form, Writer};
+    /// let mut writer = Writer::new(2)?;
+    /// writer.add(&Form::new(8, 2, Coding::Mmr), None, &[0x18, 0xFC], 1)?;
+    /// assert_eq!(Fax::new(writer.bytes()).pages().count(), 1);
+    /// # Ok::<(), faxpages::Error>(())
+    /// ```
     #[must_use]
     pub fn bytes(&self) -> &[u8] {
-        &self.file[..self.written.len]
+        &self.file
     }
 
     /// How many pages were added.
+    ///
+    /// ```
+    /// assert_eq!(faxpages::Writer::new(2)?.pages(), 0);
+    /// # Ok::<(), faxpages::Error>(())
+    /// ```
     #[must_use]
     pub fn pages(&self) -> u32 {
-        self.written.added
+        self.added
     }
 
     /// The file, each of whose pages says how many there are.
@@ -142,8 +179,16 @@ impl Writer {
     /// # Errors
     ///
     /// [`Invalid::FewPages`] where it lacks pages, and [`Invalid::NoPage`] where it has none.
+    ///
+    /// ```
+    /// use faxpages::{Coding, Form, Writer};
+    /// let mut writer = Writer::new(1)?;
+    /// writer.add(&Form::new(8, 2, Coding::Mmr), None, &[0x18, 0xFC], 1)?;
+    /// assert!(writer.finish()?.starts_with(b"II*\0"));
+    /// # Ok::<(), faxpages::Error>(())
+    /// ```
     pub fn finish(mut self) -> Result<Vec<u8>, Error> {
-        let FaxWritten { added, total, .. } = self.written;
+        let Writer { added, total, .. } = self;
         if added < total {
             return Err(Invalid::FewPages { added, total }.into());
         }
@@ -151,21 +196,17 @@ impl Writer {
             return Err(Invalid::NoPage.into());
         }
         if total == 0 {
-            match calls::faxpages_end_pages(&mut self.file, &mut self.written) {
-                calls::DONE => {}
-                status => return Err(refused(status, &calls::NO_FAULT)),
-            }
+            put_totals(&mut self.file, added as u16);
         }
-        self.file.truncate(self.written.len);
         Ok(self.file)
     }
 }
 
-/// What of the rows of a form is out of range.
-pub(crate) fn invalid_rows(width: u32, rows: u32, coding: Coding, aligned: bool) -> Option<Invalid> {
+/// What of so many rows is out of range.
+pub(crate) fn invalid_rows(width: u32, rows: usize, coding: Coding, aligned: bool) -> Option<Invalid> {
     match (width, rows) {
         (0 | 65_536.., _) => Some(Invalid::Width(width)),
-        (_, 0 | 1_000_001..) => Some(Invalid::Rows(rows as usize)),
+        (_, 0 | 1_000_001..) => Some(Invalid::Rows(rows)),
         _ => (aligned && coding == Coding::Mmr).then_some(Invalid::Aligned),
     }
 }
@@ -176,24 +217,5 @@ pub(crate) fn invalid_raster(k: u32, len: usize, stride: usize, row: usize, rows
     match k {
         0 => Some(Invalid::K),
         _ => (len < needed).then_some(Invalid::Raster { len, needed }),
-    }
-}
-
-fn given(form: &Form) -> FaxForm {
-    let height = if form.rows_per_strip == 0 { form.rows } else { form.rows_per_strip.min(form.rows) };
-    FaxForm {
-        width: form.width,
-        rows: form.rows,
-        coding: form.coding.number(),
-        order: form.order.number(),
-        aligned: form.aligned.into(),
-        exchanged: 0,
-        rows_per_strip: height,
-        strips: form.rows.div_ceil(height.max(1)),
-        x_numerator: form.x.0,
-        x_denominator: form.x.1,
-        y_numerator: form.y.0,
-        y_denominator: form.y.1,
-        unit: form.unit.number(),
     }
 }

@@ -87,21 +87,31 @@ fn each_way_has_the_same_runs() {
     }
 }
 
-/// Pages come packed from the library, and rows as changing elements, which the crate packs.
+/// The packed rows of these runs, pel by pel.
+fn packed(rows: &[Vec<u32>], width: u32) -> Vec<u8> {
+    let stride = width.div_ceil(8) as usize;
+    let mut packed = vec![0; rows.len() * stride];
+    for (runs, row) in rows.iter().zip(packed.chunks_mut(stride)) {
+        let colours = runs.iter().zip([0, 1].into_iter().cycle()).flat_map(|(run, colour)| (0..*run).map(move |_| colour));
+        colours.enumerate().for_each(|(pel, colour)| row[pel / 8] |= colour << (7 - pel % 8));
+    }
+    packed
+}
+
 #[test]
-fn rows_are_packed_as_pages_are() {
+fn rows_are_packed_as_they_were_coded() {
     for width in (1u32..200).chain([448, 449, 520, 1728, 1735, 2432, 65_535]) {
         let (coding, rows) = ([Coding::Mh, Coding::Mr, Coding::Mmr][width as usize % 3], if width < 999 { 24 } else { 9 });
-        let (strip, file, _) = coded(coding, width, rows);
-        let fax = Fax::new(&file);
-        let packed: Vec<u8> = fax.rows().flat_map(|row| row.unwrap().packed).collect();
-        assert_eq!(packed, fax.page(0).unwrap().packed, "{width} pels");
+        let (strip, file, runs) = coded(coding, width, rows);
+        let (fax, wanted) = (Fax::new(&file), packed(&runs, width));
+        assert_eq!(fax.rows().flat_map(|row| row.unwrap().packed).collect::<Vec<u8>>(), wanted, "{width} pels");
+        assert_eq!(fax.page(0).unwrap().packed, wanted, "{width} pels");
         let form = StripForm { rows: Some(rows), ..StripForm::new(width, coding) };
         let (mut lent, mut of_strip) = (Strip::new(&strip, form).rows(), Vec::new());
         while let Some(row) = lent.next_row() {
             of_strip.extend_from_slice(&row.unwrap().packed);
         }
-        assert_eq!(packed, of_strip, "{width} pels");
+        assert_eq!(of_strip, wanted, "{width} pels");
     }
 }
 
@@ -116,6 +126,15 @@ fn what_is_lent_is_what_is_owned() {
         assert_eq!(lent.cursor(), owned.cursor());
     }
     assert!(owned.next().is_none());
+    let (mut lent, mut owned) = (fax.lend_rows(), fax.runs());
+    while let Some(row) = lent.next().unwrap() {
+        let wanted = owned.next().unwrap().unwrap();
+        assert_eq!((row.page, row.number, row.width()), (wanted.page, wanted.number, wanted.width));
+        assert_eq!(row.runs().collect::<Vec<_>>(), wanted.runs);
+        assert_eq!(row.runs().len(), row.changes().len() + 1);
+        assert_eq!(lent.cursor(), owned.cursor());
+    }
+    assert!(owned.next().is_none() && lent.next().unwrap().is_none());
     let (mut lent, mut owned, mut count) = (strip.runs(), strip.runs(), 0);
     while let Some(row) = lent.next_row() {
         assert_eq!(row.cloned(), owned.next().unwrap());
@@ -130,4 +149,14 @@ fn what_is_lent_is_what_is_owned() {
         }
     }
     assert_eq!(read, wanted);
+    let (mut reader, mut read) = (StripReader::new(form), Vec::new());
+    for piece in bytes.chunks(7) {
+        reader.feed(piece);
+        while let Some(row) = reader.next().unwrap() {
+            read.push(row.runs().collect::<Vec<_>>());
+        }
+    }
+    reader.close();
+    assert_eq!(read, wanted);
+    assert!(reader.next().is_err() && reader.next().unwrap().is_none() && reader.is_ended());
 }

@@ -93,15 +93,21 @@ def by_the_module() -> dict[str, str]:
 
 def in_rust() -> dict[str, str]:
     """What the crate for Rust says of each fault of a file or a strip."""
-    pieces = re.findall(r'^ +Fault::(\w+?)(?:\((\d+|_)\))? => (?:\{\s+)?"(.*)",?$', read("rust", "src", "words.rs"), re.M)
-    return {f"{name} {tag.strip('_')}".strip(): means for name, tag, means in pieces}
+    text = read("rust", "src", "error.rs")
+    special = re.findall(r'^ +Fault::(\w+)\((\d+)\) => "(.*)",$', text, re.M)
+    return {**of_rust_table(text), **{f"{name} {tag}": means for name, tag, means in special}}
+
+
+def of_rust_table(text: str) -> dict[str, str]:
+    """The faults of the crate's table, of which their documentation is made too."""
+    return dict(re.findall(r'^        (\w+)(?:\(u32\))? = \d+,\s+"(.*)";$', text, re.M))
 
 
 def in_rust_documentation() -> dict[str, str]:
     """What is written above each fault in the crate for Rust."""
     text = read("rust", "src", "error.rs")
-    found = {}
-    for kind in ("Fault", "PbmFault", "Error"):
+    found = of_rust_table(text)
+    for kind in ("PbmFault", "Error"):
         body = text.partition(f"pub enum {kind} {{\n")[2].partition("\n}\n")[0]
         for lines, name in re.findall(r"((?:^    ///.*\n)+)(?:    #.*\n)*^    (\w+)", body, re.M):
             found[place_of(name, kind == "PbmFault")] = " ".join(re.sub(r"(?m)^ *///", "", lines).split())

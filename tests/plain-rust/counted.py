@@ -1,4 +1,5 @@
-"""Counts the instructions of the crate for Rust in each way that it hands out rows, for tests/plain-rust/instructions."""
+"""Counts the instructions of the crate for Rust, and the growths of memory, in each way that it returns rows, for
+tests/plain-rust/instructions."""
 
 from __future__ import annotations
 
@@ -10,18 +11,21 @@ import subprocess
 from typing import Callable
 
 from tests import TOP
+from tests.finding import found
 
 HERE = os.path.dirname(os.path.abspath(__file__))
 REGISTRY = "/usr/share/cargo/registry"
-# What the others are compared with, and how many times as many instructions a way may take, in the mean and at most.
-# Packed rows of strips that are asked for their runs may take more: a strip is read by more calls than a file, and the
-# first bytes of what is left of it are copied for each (docs/TRIED.md).
-RUNS = "fax.runs"
-MEAN, MEAN_OF_PACKED, MOST = 1.3, 1.36, 1.48
-# The ways that hand out the same runs, and with those that hand out packed rows, each with the bound of its mean.
-OF_RUNS = {"row.runs": MEAN, "fax.next_row.runs": MEAN, "strip.runs": MEAN, "strip.next_row": MEAN, "reader.next_runs": MEAN,
-           "strip.row.runs": MEAN_OF_PACKED, "reader.lend_row.runs": MEAN_OF_PACKED}
-WAYS = {**OF_RUNS, "fax.rows": MEAN, "fax.next_row": MEAN}
+# What the others are compared with, the walk of the plain crates, and how many times as many instructions a way may take
+# in the mean: rows that are lent are the walk's own; others are copied, packed, or found in packed bytes again.
+WALK = "walk"
+LENT, OWNED, PACKED, FOUND = 1.1, 1.45, 1.9, 3.6
+OF_RUNS = {"fax.lend_rows": LENT, "strip.lend_rows": LENT, "reader.next": OWNED, "fax.next_row.runs": OWNED,
+           "fax.runs": OWNED, "strip.runs": OWNED, "strip.next_row": OWNED, "reader.next_runs": PACKED,
+           "row.runs": FOUND, "strip.row.runs": FOUND, "reader.lend_row.runs": FOUND}
+WAYS = {**OF_RUNS, "fax.lend_rows.pack": OWNED, "fax.next_row": PACKED, "fax.rows": PACKED}
+# Of these, how many growths of memory a page of 2,292 rows may have: as many as one of few rows.
+NONE_A_ROW = ("fax.lend_rows", "fax.lend_rows.pack", "strip.lend_rows")
+FEW = 40
 CODINGS = ["mh", "mr", "mmr"]
 
 
@@ -58,26 +62,33 @@ def told(program: str, words: list[str]) -> int:
     return int(subprocess.run([program, *words], capture_output=True, check=True).stdout)
 
 
+def growths(program: str, words: list[str]) -> int:
+    """How many times a run asks for memory."""
+    said = subprocess.run(["valgrind", program, *words], capture_output=True, text=True, check=True).stderr
+    return int(found(r"total heap usage: ([\d,]+) allocs", said)[1].replace(",", ""))
+
+
 def mean(numbers: list[float]) -> float:
     return math.exp(sum(map(math.log, numbers)) / len(numbers))
 
 
 def compare(room: str, files: dict[tuple[str, str, int], str], pages: list[str],
             instructions: Callable[[list[str]], int]) -> int:
-    """Prints how many times as many instructions as fax.runs() each way takes; answers how many bounds do not hold: those
-    of means are one, and that of the most another."""
-    program, too_many, most = build(os.path.join(room, "crate")), False, 0.0
+    """Prints how many times as many instructions as the walk each way takes; answers how many bounds do not hold: those of
+    means are one, and those of growths another."""
+    program, too_many, grows = build(os.path.join(room, "crate")), False, False
     ratios: dict[str, list[float]] = {way: [] for way in WAYS}
     for page in pages:
         for coding in CODINGS:
             words = [files[page, coding, 1], strip_of(files[page, coding, 1])]
-            assert len({told(program, [way, *words]) for way in (RUNS, *OF_RUNS)}) == 1, words
-            base, *taken = [instructions([program, way, *words]) for way in ("nothing", RUNS, *WAYS)]
+            assert len({told(program, [way, *words]) for way in (WALK, *OF_RUNS)}) == 1, words
+            base, *taken = [instructions([program, way, *words]) for way in ("nothing", WALK, *WAYS)]
+            nothing, *asked = [growths(program, [way, *words]) for way in ("nothing", *NONE_A_ROW)]
+            grows = grows or max(asked) > nothing + FEW
             for way, count in zip(WAYS, taken[1:]):
                 ratios[way].append((count - base) / (taken[0] - base))
-    print(f"{'the crate':20} ratio to {RUNS}, least, most")
+    print(f"{'the crate':20} ratio to the {WALK}, least, most")
     for way, numbers in ratios.items():
         print(f"{way:20} {mean(numbers):6.3f} {min(numbers):6.3f} {max(numbers):6.3f}", flush=True)
         too_many = too_many or mean(numbers) > WAYS[way]
-        most = max(most, *numbers)
-    return too_many + (most > MOST)
+    return too_many + grows

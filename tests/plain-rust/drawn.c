@@ -1,6 +1,7 @@
 /* Reads files from the standard input, each after its length (four bytes, the lowest first), and prints a line for
  * each: how reading it ended, and a sum of all that the library answers to calls over it. The sum has the numbers of
- * structs one by one, so that it is the same where size_t has fewer bytes. See tests/plain-rust/drawn. */
+ * structs one by one, so that it is the same where size_t has fewer bytes. With STRIPS_WITHOUT_PLACES nothing of a
+ * strip's place is in it, which the crate for Rust (drawn.rs) does not tell. See tests/plain-rust/drawn. */
 #include "faxpages.h"
 #include <stdio.h>
 #include <stdlib.h>
@@ -144,7 +145,9 @@ static void read_strip(size_t len, uint32_t number) {
                                           &told);
     add_told(status, &told);
     add_bytes(out, 13 * told.count);
+#ifndef STRIPS_WITHOUT_PLACES
     add_place(&place);
+#endif
     add(faxpages_strip_check(file + from, len - from, &form, &report));
     add_numbers((const uint32_t[]){report.rows, report.no_end_of_block, report.return_to_control,
                                    report.data_after_end, report.not_t4_choice}, 5);

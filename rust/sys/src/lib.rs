@@ -1,225 +1,77 @@
-//! The calls of `faxpages.h` over slices, linked from `libfaxpages.a`, the library for C that is proved.
+//! The calls of `faxpages.h`, linked from `libfaxpages.a`, the library for C that is proved: each with the name and the
+//! numbers that the header has, over slices in place of pointers and lengths.
 //!
-//! Use the crate `faxpages` with its feature `proved`, which stands on this one. The functions and the structs are
-//! those of `fax_c::calls` of the plain sources, which are called where the archive is not.
+//! The crate `faxpages` is what programs in Rust use: it is of plain Rust, for each target. This one is for those that
+//! want the proved library itself, on x86-64 Linux. The declarations here are tested, and not proved.
+//!
+//! ```no_run
+//! # use faxpages_sys::{faxpages_forms, FaxForm, FaxTold};
+//! let file = std::fs::read("fax.tif")?;
+//! let (mut forms, mut told) = ([FaxForm::default(); 16], FaxTold::default());
+//! let status = faxpages_forms(&file, 0, &mut forms, &mut told);
+//! println!("{} pages, status {status}", told.count);
+//! # Ok::<(), std::io::Error>(())
+//! ```
+#![deny(missing_debug_implementations)]
 
 #[cfg(not(all(target_arch = "x86_64", target_os = "linux")))]
-compile_error!("libfaxpages.a is for x86-64 Linux: leave out the feature `proved`");
+compile_error!("libfaxpages.a is for x86-64 Linux: use the crate `faxpages`, which is of plain Rust");
 
-mod c {
-    use super::*;
+/// The calls that are declared, each as a function that is safe.
+macro_rules! calls {
+    ($(fn $name:ident($($parameters:tt)*) -> $answer:ty;)*) => {
+        $(call! { $name, $answer, [$($parameters)*], [], [], [] })*
+    };
+}
 
-    extern "C" {
-        pub fn faxpages_check(
-            file: *const u8,
-            file_len: usize,
-            notes: *mut FaxNote,
-            notes_len: usize,
-            report: *mut FaxReport,
-        ) -> u32;
-        pub fn faxpages_strip_code(
-            form: *const FaxStrip,
-            k: u32,
-            raster: *const u8,
-            raster_len: usize,
-            stride: usize,
-            out: *mut u8,
-            out_len: usize,
-            len: *mut usize,
-        ) -> u32;
-        pub fn faxpages_strip_code_runs(
-            form: *const FaxStrip,
-            k: u32,
-            rows: *const FaxRow,
-            rows_len: usize,
-            runs: *const u32,
-            runs_len: usize,
-            out: *mut u8,
-            out_len: usize,
-            len: *mut usize,
-        ) -> u32;
-        pub fn faxpages_convert(
-            file: *const u8,
-            file_len: usize,
-            options: *const FaxOptions,
-            out: *mut u8,
-            out_len: usize,
-            converted: *mut FaxConverted,
-        ) -> u32;
-        pub fn faxpages_place_text(
-            place: *const FaxPlace,
-            runs: *const u32,
-            runs_len: usize,
-            text: *mut u8,
-            text_len: usize,
-            len: *mut usize,
-        ) -> u32;
-        pub fn faxpages_place_parse(
-            text: *const u8,
-            text_len: usize,
-            place: *mut FaxPlace,
-            runs: *mut u32,
-            runs_len: usize,
-        ) -> u32;
-        pub fn faxpages_forms(
-            file: *const u8,
-            file_len: usize,
-            page: u32,
-            forms: *mut FaxForm,
-            forms_len: usize,
-            told: *mut FaxTold,
-        ) -> u32;
-        pub fn faxpages_fault_name(number: u32, name: *mut u8, name_len: usize) -> usize;
-        pub fn faxpages_page(
-            file: *const u8,
-            file_len: usize,
-            page: u32,
-            form: *mut FaxForm,
-            out: *mut u8,
-            out_len: usize,
-            stride: usize,
-            told: *mut FaxTold,
-        ) -> u32;
-        pub fn faxpages_salvage(
-            file: *const u8,
-            file_len: usize,
-            page: u32,
-            form: *mut FaxForm,
-            out: *mut u8,
-            out_len: usize,
-            stride: usize,
-            lost: *mut FaxLost,
-            lost_len: usize,
-            told: *mut FaxTold,
-        ) -> u32;
-        pub fn faxpages_salvage_from(
-            file: *const u8,
-            file_len: usize,
-            place: *mut FaxPlace,
-            runs: *mut u32,
-            runs_len: usize,
-            out: *mut u8,
-            out_len: usize,
-            stride: usize,
-            lost: *mut FaxLost,
-            lost_len: usize,
-            told: *mut FaxTold,
-        ) -> u32;
-        pub fn faxpages_salvage_strip(
-            strip: *const u8,
-            strip_len: usize,
-            form: *const FaxStrip,
-            out: *mut u8,
-            out_len: usize,
-            stride: usize,
-            lost: *mut FaxLost,
-            lost_len: usize,
-            told: *mut FaxTold,
-        ) -> u32;
-        pub fn faxpages_received(
-            file: *const u8,
-            file_len: usize,
-            page: u32,
-            received: *mut FaxReceived,
-        ) -> u32;
-        pub fn faxpages_rows_from(
-            file: *const u8,
-            file_len: usize,
-            place: *mut FaxPlace,
-            runs: *mut u32,
-            runs_len: usize,
-            rows: *mut FaxRow,
-            rows_len: usize,
-            out: *mut u8,
-            out_len: usize,
-            told: *mut FaxTold,
-        ) -> u32;
-        pub fn faxpages_runs_from(
-            file: *const u8,
-            file_len: usize,
-            place: *mut FaxPlace,
-            runs: *mut u32,
-            runs_len: usize,
-            rows: *mut FaxRow,
-            rows_len: usize,
-            out: *mut u32,
-            out_len: usize,
-            told: *mut FaxTold,
-        ) -> u32;
-        pub fn faxpages_changes_from(
-            file: *const u8,
-            file_len: usize,
-            place: *mut FaxPlace,
-            runs: *mut u32,
-            runs_len: usize,
-            rows: *mut FaxRow,
-            rows_len: usize,
-            out: *mut u32,
-            out_len: usize,
-            told: *mut FaxTold,
-        ) -> u32;
-        pub fn faxpages_strip_check(
-            strip: *const u8,
-            strip_len: usize,
-            form: *const FaxStrip,
-            report: *mut FaxStripReport,
-        ) -> u32;
-        pub fn faxpages_strip_part(
-            strip: *const u8,
-            strip_len: usize,
-            form: *const FaxStrip,
-            place: *mut FaxPlace,
-            runs: *mut u32,
-            runs_len: usize,
-            out: *mut u8,
-            out_len: usize,
-            stride: usize,
-            told: *mut FaxTold,
-        ) -> u32;
-        pub fn faxpages_strip_rows(
-            strip: *const u8,
-            strip_len: usize,
-            form: *const FaxStrip,
-            place: *mut FaxPlace,
-            runs: *mut u32,
-            runs_len: usize,
-            out: *mut u8,
-            out_len: usize,
-            stride: usize,
-            told: *mut FaxTold,
-        ) -> u32;
-        pub fn faxpages_version() -> u32;
-        pub fn faxpages_add_page(
-            form: *const FaxForm,
-            k: u32,
-            raster: *const u8,
-            raster_len: usize,
-            stride: usize,
-            file: *mut u8,
-            file_len: usize,
-            written: *mut FaxWritten,
-        ) -> u32;
-        pub fn faxpages_end_pages(file: *mut u8, file_len: usize, written: *mut FaxWritten) -> u32;
-    }
+/// A call, of whose parameters these are left: what C has of those before them, what Rust has, and what is given.
+macro_rules! call {
+    ($name:ident, $answer:ty, [], [$($c:tt)*], [$($r:tt)*], [$($given:tt)*]) => {
+        /// As the header says.
+        pub fn $name($($r)*) -> $answer {
+            extern "C" {
+                fn $name($($c)*) -> $answer;
+            }
+            // SAFETY: each length is that of the slice of its pointer, and what is written is borrowed alone.
+            unsafe { $name($($given)*) }
+        }
+    };
+    ($name:ident, $answer:ty, [$it:ident: &[$of:ty]$(, $($left:tt)*)?], [$($c:tt)*], [$($r:tt)*], [$($given:tt)*]) => {
+        call! { $name, $answer, [$($($left)*)?], [$($c)* $it: *const $of, _: usize,], [$($r)* $it: &[$of],],
+                [$($given)* $it.as_ptr(), $it.len(),] }
+    };
+    ($name:ident, $answer:ty, [$it:ident: &mut [$of:ty]$(, $($left:tt)*)?], [$($c:tt)*], [$($r:tt)*], [$($given:tt)*]) => {
+        call! { $name, $answer, [$($($left)*)?], [$($c)* $it: *mut $of, _: usize,], [$($r)* $it: &mut [$of],],
+                [$($given)* $it.as_mut_ptr(), $it.len(),] }
+    };
+    ($name:ident, $answer:ty, [$it:ident: &mut $of:ty$(, $($left:tt)*)?], [$($c:tt)*], [$($r:tt)*], [$($given:tt)*]) => {
+        call! { $name, $answer, [$($($left)*)?], [$($c)* $it: *mut $of,], [$($r)* $it: &mut $of,], [$($given)* $it,] }
+    };
+    ($name:ident, $answer:ty, [$it:ident: &$of:ty$(, $($left:tt)*)?], [$($c:tt)*], [$($r:tt)*], [$($given:tt)*]) => {
+        call! { $name, $answer, [$($($left)*)?], [$($c)* $it: *const $of,], [$($r)* $it: &$of,], [$($given)* $it,] }
+    };
+    ($name:ident, $answer:ty, [$it:ident: $of:ty$(, $($left:tt)*)?], [$($c:tt)*], [$($r:tt)*], [$($given:tt)*]) => {
+        call! { $name, $answer, [$($($left)*)?], [$($c)* $it: $of,], [$($r)* $it: $of,], [$($given)* $it,] }
+    };
 }
 
 /// The fault that a call met: all 0 where it met none.
 #[repr(C)]
-#[derive(Clone, Copy)]
+#[derive(Clone, Copy, Debug, Default)]
 pub struct FaxFault {
     /// Its number, which never changes.
     pub number: u32,
     /// The tag of the field at fault, or 0.
     pub tag: u32,
-    /// The page of the row that was due at the fault.
+    /// The page of the next row at the fault.
     pub page: u32,
-    /// The row that was due, 0 for a fault of the header, of a directory or of a field.
+    /// That row, 0 for a fault of the header, of a directory or of a field.
     pub row: u32,
 }
 
 /// What a call wrote, where to go on, and the fault that it met.
 #[repr(C)]
-#[derive(Clone, Copy)]
+#[derive(Clone, Copy, Debug, Default)]
 pub struct FaxTold {
     /// How many pages or rows were written.
     pub count: usize,
@@ -234,7 +86,7 @@ pub struct FaxTold {
 
 /// The form of a page.
 #[repr(C)]
-#[derive(Clone, Copy)]
+#[derive(Clone, Copy, Debug, Default)]
 pub struct FaxForm {
     /// The pels of a row, 1 to 65,535.
     pub width: u32,
@@ -264,7 +116,7 @@ pub struct FaxForm {
 
 /// A row that was written: where its numbers lie, and its place.
 #[repr(C)]
-#[derive(Clone, Copy)]
+#[derive(Clone, Copy, Debug, Default)]
 pub struct FaxRow {
     /// Where its numbers begin in `out`.
     pub at: usize,
@@ -279,7 +131,7 @@ pub struct FaxRow {
 
 /// Rows of a page or of a strip that are lost, one after another.
 #[repr(C)]
-#[derive(Clone, Copy)]
+#[derive(Clone, Copy, Debug, Default)]
 pub struct FaxLost {
     /// The first of them, from 0.
     pub row: u32,
@@ -292,7 +144,7 @@ pub struct FaxLost {
 /// What the receiver of a page counted of bad rows, those that it could not read: each number, and
 /// before it whether the page has it. A number that it has not is 0.
 #[repr(C)]
-#[derive(Clone, Copy)]
+#[derive(Clone, Copy, Debug, Default)]
 pub struct FaxReceived {
     /// 1 where the page has field 326, BadFaxLines, else 0; and how many rows were bad.
     pub has_bad_rows: u32,
@@ -310,7 +162,7 @@ pub struct FaxReceived {
 /// Where to go on: a cursor; and where `runs` is not 0 a place inside a strip, after so many bits
 /// of it, whose row before it has so many runs, which stand apart.
 #[repr(C)]
-#[derive(Clone, Copy)]
+#[derive(Clone, Copy, Debug, Default)]
 pub struct FaxPlace {
     pub page: u32,
     pub row: u32,
@@ -320,11 +172,11 @@ pub struct FaxPlace {
 
 /// The form of a strip.
 #[repr(C)]
-#[derive(Clone, Copy)]
+#[derive(Clone, Copy, Debug, Default)]
 pub struct FaxStrip {
     /// The pels of a row, 1 to 65,535.
     pub width: u32,
-    /// The rows, 1 to 1,000,000, or 0 where nobody counted those that are read.
+    /// The rows, 1 to 1,000,000, or 0 where the height is unknown.
     pub rows: u32,
     /// How the rows are coded: 1 in MH, 2 in MR, 3 in MMR.
     pub coding: u32,
@@ -336,7 +188,7 @@ pub struct FaxStrip {
 
 /// What was found in a strip, and after its last row.
 #[repr(C)]
-#[derive(Clone, Copy)]
+#[derive(Clone, Copy, Debug, Default)]
 pub struct FaxStripReport {
     /// How many rows were read.
     pub rows: u32,
@@ -353,7 +205,7 @@ pub struct FaxStripReport {
 
 /// How far a file is written.
 #[repr(C)]
-#[derive(Clone, Copy)]
+#[derive(Clone, Copy, Debug, Default)]
 pub struct FaxWritten {
     /// How many bytes it has.
     pub len: usize,
@@ -367,7 +219,7 @@ pub struct FaxWritten {
 
 /// A note on a page, or on a strip of it.
 #[repr(C)]
-#[derive(Clone, Copy)]
+#[derive(Clone, Copy, Debug, Default)]
 pub struct FaxNote {
     /// The page, from 0.
     pub page: u32,
@@ -379,7 +231,7 @@ pub struct FaxNote {
 
 /// What was found in a file up to its first fault.
 #[repr(C)]
-#[derive(Clone, Copy)]
+#[derive(Clone, Copy, Debug, Default)]
 pub struct FaxReport {
     /// How many pages were read wholly.
     pub pages: u64,
@@ -392,7 +244,7 @@ pub struct FaxReport {
 
 /// How a file is written.
 #[repr(C)]
-#[derive(Clone, Copy)]
+#[derive(Clone, Copy, Debug, Default)]
 pub struct FaxOptions {
     /// 0 for PBM, 1 for MH, 2 for MR, 3 for MMR.
     pub target: u32,
@@ -408,7 +260,7 @@ pub struct FaxOptions {
 
 /// How long the output is, or why there is none.
 #[repr(C)]
-#[derive(Clone, Copy)]
+#[derive(Clone, Copy, Debug, Default)]
 pub struct FaxConverted {
     /// How many bytes the output has.
     pub len: usize,
@@ -417,408 +269,67 @@ pub struct FaxConverted {
     pub fault: FaxFault,
 }
 
-/// As the header says.
-pub fn faxpages_check(file: &[u8], notes: &mut [FaxNote], report: &mut FaxReport) -> u32 {
-    // SAFETY: each length is that of the slice of its pointer, and what is written is borrowed alone.
-    unsafe {
-        c::faxpages_check(file.as_ptr(), file.len(), notes.as_mut_ptr(), notes.len(), report)
-    }
-}
-
-/// As the header says.
-pub fn faxpages_strip_code(
-    form: &FaxStrip,
-    k: u32,
-    raster: &[u8],
-    stride: usize,
-    out: &mut [u8],
-    len: &mut usize,
-) -> u32 {
-    // SAFETY: each length is that of the slice of its pointer, and what is written is borrowed alone.
-    unsafe {
-        c::faxpages_strip_code(
-            form,
-            k,
-            raster.as_ptr(),
-            raster.len(),
-            stride,
-            out.as_mut_ptr(),
-            out.len(),
-            len,
-        )
-    }
-}
-
-/// As the header says.
-pub fn faxpages_strip_code_runs(
-    form: &FaxStrip,
-    k: u32,
-    rows: &[FaxRow],
-    runs: &[u32],
-    out: &mut [u8],
-    len: &mut usize,
-) -> u32 {
-    // SAFETY: each length is that of the slice of its pointer, and what is written is borrowed alone.
-    unsafe {
-        c::faxpages_strip_code_runs(
-            form,
-            k,
-            rows.as_ptr(),
-            rows.len(),
-            runs.as_ptr(),
-            runs.len(),
-            out.as_mut_ptr(),
-            out.len(),
-            len,
-        )
-    }
-}
-
-/// As the header says.
-pub fn faxpages_convert(
-    file: &[u8],
-    options: &FaxOptions,
-    out: &mut [u8],
-    converted: &mut FaxConverted,
-) -> u32 {
-    // SAFETY: each length is that of the slice of its pointer, and what is written is borrowed alone.
-    unsafe {
-        c::faxpages_convert(
-            file.as_ptr(),
-            file.len(),
-            options,
-            out.as_mut_ptr(),
-            out.len(),
-            converted,
-        )
-    }
-}
-
-/// As the header says.
-pub fn faxpages_place_text(
-    place: &FaxPlace,
-    runs: &[u32],
-    text: &mut [u8],
-    len: &mut usize,
-) -> u32 {
-    // SAFETY: each length is that of the slice of its pointer, and what is written is borrowed alone.
-    unsafe {
-        c::faxpages_place_text(place, runs.as_ptr(), runs.len(), text.as_mut_ptr(), text.len(), len)
-    }
-}
-
-/// As the header says.
-pub fn faxpages_place_parse(text: &[u8], place: &mut FaxPlace, runs: &mut [u32]) -> u32 {
-    // SAFETY: each length is that of the slice of its pointer, and what is written is borrowed alone.
-    unsafe {
-        c::faxpages_place_parse(text.as_ptr(), text.len(), place, runs.as_mut_ptr(), runs.len())
-    }
-}
-
-/// As the header says.
-pub fn faxpages_forms(file: &[u8], page: u32, forms: &mut [FaxForm], told: &mut FaxTold) -> u32 {
-    // SAFETY: each length is that of the slice of its pointer, and what is written is borrowed alone.
-    unsafe {
-        c::faxpages_forms(file.as_ptr(), file.len(), page, forms.as_mut_ptr(), forms.len(), told)
-    }
-}
-
-/// As the header says.
-pub fn faxpages_fault_name(number: u32, name: &mut [u8]) -> usize {
-    // SAFETY: each length is that of the slice of its pointer, and what is written is borrowed alone.
-    unsafe {
-        c::faxpages_fault_name(number, name.as_mut_ptr(), name.len())
-    }
-}
-
-/// As the header says.
-pub fn faxpages_page(
-    file: &[u8],
-    page: u32,
-    form: &mut FaxForm,
-    out: &mut [u8],
-    stride: usize,
-    told: &mut FaxTold,
-) -> u32 {
-    // SAFETY: each length is that of the slice of its pointer, and what is written is borrowed alone.
-    unsafe {
-        c::faxpages_page(
-            file.as_ptr(),
-            file.len(),
-            page,
-            form,
-            out.as_mut_ptr(),
-            out.len(),
-            stride,
-            told,
-        )
-    }
-}
-
-/// As the header says.
-pub fn faxpages_salvage(
-    file: &[u8],
-    page: u32,
-    form: &mut FaxForm,
-    out: &mut [u8],
-    stride: usize,
-    lost: &mut [FaxLost],
-    told: &mut FaxTold,
-) -> u32 {
-    // SAFETY: each length is that of the slice of its pointer, and what is written is borrowed alone.
-    unsafe {
-        c::faxpages_salvage(
-            file.as_ptr(),
-            file.len(),
-            page,
-            form,
-            out.as_mut_ptr(),
-            out.len(),
-            stride,
-            lost.as_mut_ptr(),
-            lost.len(),
-            told,
-        )
-    }
-}
-
-/// As the header says.
-pub fn faxpages_salvage_from(
-    file: &[u8],
-    place: &mut FaxPlace,
-    runs: &mut [u32],
-    out: &mut [u8],
-    stride: usize,
-    lost: &mut [FaxLost],
-    told: &mut FaxTold,
-) -> u32 {
-    // SAFETY: each length is that of the slice of its pointer, and what is written is borrowed alone.
-    unsafe {
-        c::faxpages_salvage_from(
-            file.as_ptr(),
-            file.len(),
-            place,
-            runs.as_mut_ptr(),
-            runs.len(),
-            out.as_mut_ptr(),
-            out.len(),
-            stride,
-            lost.as_mut_ptr(),
-            lost.len(),
-            told,
-        )
-    }
-}
-
-/// As the header says.
-pub fn faxpages_salvage_strip(
-    strip: &[u8],
-    form: &FaxStrip,
-    out: &mut [u8],
-    stride: usize,
-    lost: &mut [FaxLost],
-    told: &mut FaxTold,
-) -> u32 {
-    // SAFETY: each length is that of the slice of its pointer, and what is written is borrowed alone.
-    unsafe {
-        c::faxpages_salvage_strip(
-            strip.as_ptr(),
-            strip.len(),
-            form,
-            out.as_mut_ptr(),
-            out.len(),
-            stride,
-            lost.as_mut_ptr(),
-            lost.len(),
-            told,
-        )
-    }
-}
-
-/// As the header says.
-pub fn faxpages_received(file: &[u8], page: u32, received: &mut FaxReceived) -> u32 {
-    // SAFETY: each length is that of the slice of its pointer, and what is written is borrowed alone.
-    unsafe {
-        c::faxpages_received(file.as_ptr(), file.len(), page, received)
-    }
-}
-
-/// As the header says.
-pub fn faxpages_rows_from(
-    file: &[u8],
-    place: &mut FaxPlace,
-    runs: &mut [u32],
-    rows: &mut [FaxRow],
-    out: &mut [u8],
-    told: &mut FaxTold,
-) -> u32 {
-    // SAFETY: each length is that of the slice of its pointer, and what is written is borrowed alone.
-    unsafe {
-        c::faxpages_rows_from(
-            file.as_ptr(),
-            file.len(),
-            place,
-            runs.as_mut_ptr(),
-            runs.len(),
-            rows.as_mut_ptr(),
-            rows.len(),
-            out.as_mut_ptr(),
-            out.len(),
-            told,
-        )
-    }
-}
-
-/// As the header says.
-pub fn faxpages_runs_from(
-    file: &[u8],
-    place: &mut FaxPlace,
-    runs: &mut [u32],
-    rows: &mut [FaxRow],
-    out: &mut [u32],
-    told: &mut FaxTold,
-) -> u32 {
-    // SAFETY: each length is that of the slice of its pointer, and what is written is borrowed alone.
-    unsafe {
-        c::faxpages_runs_from(
-            file.as_ptr(),
-            file.len(),
-            place,
-            runs.as_mut_ptr(),
-            runs.len(),
-            rows.as_mut_ptr(),
-            rows.len(),
-            out.as_mut_ptr(),
-            out.len(),
-            told,
-        )
-    }
-}
-
-/// As the header says.
-pub fn faxpages_changes_from(
-    file: &[u8],
-    place: &mut FaxPlace,
-    runs: &mut [u32],
-    rows: &mut [FaxRow],
-    out: &mut [u32],
-    told: &mut FaxTold,
-) -> u32 {
-    // SAFETY: each length is that of the slice of its pointer, and what is written is borrowed alone.
-    unsafe {
-        c::faxpages_changes_from(
-            file.as_ptr(),
-            file.len(),
-            place,
-            runs.as_mut_ptr(),
-            runs.len(),
-            rows.as_mut_ptr(),
-            rows.len(),
-            out.as_mut_ptr(),
-            out.len(),
-            told,
-        )
-    }
-}
-
-/// As the header says.
-pub fn faxpages_strip_check(strip: &[u8], form: &FaxStrip, report: &mut FaxStripReport) -> u32 {
-    // SAFETY: each length is that of the slice of its pointer, and what is written is borrowed alone.
-    unsafe {
-        c::faxpages_strip_check(strip.as_ptr(), strip.len(), form, report)
-    }
-}
-
-/// As the header says.
-pub fn faxpages_strip_part(
-    strip: &[u8],
-    form: &FaxStrip,
-    place: &mut FaxPlace,
-    runs: &mut [u32],
-    out: &mut [u8],
-    stride: usize,
-    told: &mut FaxTold,
-) -> u32 {
-    // SAFETY: each length is that of the slice of its pointer, and what is written is borrowed alone.
-    unsafe {
-        c::faxpages_strip_part(
-            strip.as_ptr(),
-            strip.len(),
-            form,
-            place,
-            runs.as_mut_ptr(),
-            runs.len(),
-            out.as_mut_ptr(),
-            out.len(),
-            stride,
-            told,
-        )
-    }
-}
-
-/// As the header says.
-pub fn faxpages_strip_rows(
-    strip: &[u8],
-    form: &FaxStrip,
-    place: &mut FaxPlace,
-    runs: &mut [u32],
-    out: &mut [u8],
-    stride: usize,
-    told: &mut FaxTold,
-) -> u32 {
-    // SAFETY: each length is that of the slice of its pointer, and what is written is borrowed alone.
-    unsafe {
-        c::faxpages_strip_rows(
-            strip.as_ptr(),
-            strip.len(),
-            form,
-            place,
-            runs.as_mut_ptr(),
-            runs.len(),
-            out.as_mut_ptr(),
-            out.len(),
-            stride,
-            told,
-        )
-    }
-}
-
-/// As the header says.
-pub fn faxpages_version() -> u32 {
-    // SAFETY: it takes nothing.
-    unsafe {
-        c::faxpages_version()
-    }
-}
-
-/// As the header says.
-pub fn faxpages_add_page(
-    form: &FaxForm,
-    k: u32,
-    raster: &[u8],
-    stride: usize,
-    file: &mut [u8],
-    written: &mut FaxWritten,
-) -> u32 {
-    // SAFETY: each length is that of the slice of its pointer, and what is written is borrowed alone.
-    unsafe {
-        c::faxpages_add_page(
-            form,
-            k,
-            raster.as_ptr(),
-            raster.len(),
-            stride,
-            file.as_mut_ptr(),
-            file.len(),
-            written,
-        )
-    }
-}
-
-/// As the header says.
-pub fn faxpages_end_pages(file: &mut [u8], written: &mut FaxWritten) -> u32 {
-    // SAFETY: each length is that of the slice of its pointer, and what is written is borrowed alone.
-    unsafe {
-        c::faxpages_end_pages(file.as_mut_ptr(), file.len(), written)
-    }
+calls! {
+    fn faxpages_check(file: &[u8], notes: &mut [FaxNote], report: &mut FaxReport) -> u32;
+    fn faxpages_strip_code(
+        form: &FaxStrip, k: u32, raster: &[u8], stride: usize, out: &mut [u8], len: &mut usize,
+    ) -> u32;
+    fn faxpages_strip_code_runs(
+        form: &FaxStrip, k: u32, rows: &[FaxRow], runs: &[u32], out: &mut [u8], len: &mut usize,
+    ) -> u32;
+    fn faxpages_convert(file: &[u8], options: &FaxOptions, out: &mut [u8], converted: &mut FaxConverted) -> u32;
+    fn faxpages_place_text(place: &FaxPlace, runs: &[u32], text: &mut [u8], len: &mut usize) -> u32;
+    fn faxpages_place_parse(text: &[u8], place: &mut FaxPlace, runs: &mut [u32]) -> u32;
+    fn faxpages_forms(file: &[u8], page: u32, forms: &mut [FaxForm], told: &mut FaxTold) -> u32;
+    fn faxpages_fault_name(number: u32, name: &mut [u8]) -> usize;
+    fn faxpages_page(
+        file: &[u8], page: u32, form: &mut FaxForm, out: &mut [u8], stride: usize, told: &mut FaxTold,
+    ) -> u32;
+    fn faxpages_salvage(
+        file: &[u8], page: u32, form: &mut FaxForm, out: &mut [u8], stride: usize, lost: &mut [FaxLost],
+        told: &mut FaxTold,
+    ) -> u32;
+    fn faxpages_salvage_from(
+        file: &[u8], place: &mut FaxPlace, runs: &mut [u32], out: &mut [u8], stride: usize, lost: &mut [FaxLost],
+        told: &mut FaxTold,
+    ) -> u32;
+    fn faxpages_salvage_strip(
+        strip: &[u8], form: &FaxStrip, out: &mut [u8], stride: usize, lost: &mut [FaxLost], told: &mut FaxTold,
+    ) -> u32;
+    fn faxpages_received(file: &[u8], page: u32, received: &mut FaxReceived) -> u32;
+    fn faxpages_rows_from(
+        file: &[u8], place: &mut FaxPlace, runs: &mut [u32], rows: &mut [FaxRow], out: &mut [u8], told: &mut FaxTold,
+    ) -> u32;
+    fn faxpages_runs_from(
+        file: &[u8], place: &mut FaxPlace, runs: &mut [u32], rows: &mut [FaxRow], out: &mut [u32], told: &mut FaxTold,
+    ) -> u32;
+    fn faxpages_changes_from(
+        file: &[u8], place: &mut FaxPlace, runs: &mut [u32], rows: &mut [FaxRow], out: &mut [u32], told: &mut FaxTold,
+    ) -> u32;
+    fn faxpages_strip_check(strip: &[u8], form: &FaxStrip, report: &mut FaxStripReport) -> u32;
+    fn faxpages_strip_part(
+        strip: &[u8], form: &FaxStrip, place: &mut FaxPlace, runs: &mut [u32], out: &mut [u8], stride: usize,
+        told: &mut FaxTold,
+    ) -> u32;
+    fn faxpages_strip_rows(
+        strip: &[u8], form: &FaxStrip, place: &mut FaxPlace, runs: &mut [u32], out: &mut [u8], stride: usize,
+        told: &mut FaxTold,
+    ) -> u32;
+    fn faxpages_version() -> u32;
+    fn faxpages_add_page(
+        form: &FaxForm, k: u32, raster: &[u8], stride: usize, file: &mut [u8], written: &mut FaxWritten,
+    ) -> u32;
+    fn faxpages_end_pages(file: &mut [u8], written: &mut FaxWritten) -> u32;
+    fn faxpages_rows(
+        file: &[u8], page: u32, row: u32, rows: &mut [FaxRow], out: &mut [u8], told: &mut FaxTold,
+    ) -> u32;
+    fn faxpages_runs(
+        file: &[u8], page: u32, row: u32, rows: &mut [FaxRow], out: &mut [u32], told: &mut FaxTold,
+    ) -> u32;
+    fn faxpages_changes(
+        file: &[u8], page: u32, row: u32, rows: &mut [FaxRow], out: &mut [u32], told: &mut FaxTold,
+    ) -> u32;
+    fn faxpages_status_name(status: u32, name: &mut [u8]) -> usize;
+    fn faxpages_note_name(kind: u32, name: &mut [u8]) -> usize;
+    fn faxpages_version_text(text: &mut [u8]) -> usize;
 }
