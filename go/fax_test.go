@@ -1,13 +1,16 @@
 package faxpages_test
 
 import (
+	"bytes"
 	"errors"
 	"fmt"
 	"image"
 	"image/color"
+	"io"
 	"os"
 	"reflect"
 	"testing"
+	"testing/iotest"
 
 	faxpages "ironminnow.example/faxpages/go"
 )
@@ -162,5 +165,164 @@ func TestRefused(t *testing.T) {
 		if err == nil || err.Error() == "" {
 			t.Fatal(err)
 		}
+	}
+}
+
+// The rows of a strip, and the error that ends them, or nil.
+func rowsOf(rows faxpages.Seq[faxpages.Row]) (found []faxpages.Row, end error) {
+	rows(func(row faxpages.Row, err error) bool {
+		if end = err; err == nil {
+			found = append(found, row)
+		}
+		return true
+	})
+	return found, end
+}
+
+// Data that comes in pieces has the rows and the end that it has at once, also where it is cut or damaged.
+func TestReader(t *testing.T) {
+	page, err := faxpages.New(drawn(t)).Page(0)
+	if err != nil {
+		t.Fatal(err)
+	}
+	for _, coding := range []faxpages.Coding{faxpages.MH, faxpages.MR, faxpages.MMR} {
+		data, err := faxpages.Code(&page.Raster, coding, faxpages.LSBFirst, 4)
+		if err != nil {
+			t.Fatal(err)
+		}
+		for cut := 0; cut < len(data); cut += 1 + len(data)/7 {
+			damaged := append([]byte(nil), data...)
+			damaged[cut] ^= 0x42
+			for _, tried := range [][]byte{data, data[:cut], damaged} {
+				for _, rows := range []int{0, 1, page.Rows} {
+					form := faxpages.StripForm{Width: page.Width, Rows: rows, Coding: coding, Order: faxpages.LSBFirst}
+					seeReader(t, tried, form)
+				}
+			}
+		}
+	}
+	if _, err := faxpages.NewReader(nil, faxpages.StripForm{}).ReadRow(); err != faxpages.ErrOptions {
+		t.Fatal(err)
+	}
+	broken := errors.New("broken")
+	if _, err := io.ReadAll(faxpages.NewReader(iotest.ErrReader(broken), faxpages.StripForm{Width: 8, Coding: faxpages.MH})); err != broken {
+		t.Fatal(err)
+	}
+}
+
+func seeReader(t *testing.T, data []byte, form faxpages.StripForm) {
+	t.Helper()
+	wanted, end := rowsOf(faxpages.Strip(data, form))
+	for _, from := range []io.Reader{bytes.NewReader(data), iotest.OneByteReader(bytes.NewReader(data))} {
+		var found []faxpages.Row
+		reader := faxpages.NewReader(from, form)
+		row, err := reader.ReadRow()
+		for ; err == nil; row, err = reader.ReadRow() {
+			found = append(found, row)
+		}
+		if err == io.EOF {
+			err = nil
+		}
+		if !reflect.DeepEqual(found, wanted) || !reflect.DeepEqual(err, end) {
+			t.Fatalf("%v: %d rows, %v; wanted %d, %v", form, len(found), err, len(wanted), end)
+		}
+	}
+	packed, err := io.ReadAll(faxpages.NewReader(bytes.NewReader(data), form))
+	if !reflect.DeepEqual(err, end) || len(packed) != len(wanted)*((form.Width+7)/8) {
+		t.Fatalf("%v: %d bytes, %v", form, len(packed), err)
+	}
+}
+
+// A row is there when its last byte came: a reader asks for no more.
+func TestReaderWaitsForNothing(t *testing.T) {
+	reader := faxpages.NewReader(io.MultiReader(bytes.NewReader([]byte{0x2F, 0xF8}), iotest.ErrReader(errors.New("too late"))),
+		faxpages.StripForm{Width: 8, Rows: 2, Coding: faxpages.MMR})
+	for number := 0; number < 2; number++ {
+		if row, err := reader.ReadRow(); err != nil || row.Number != number || row.Packed[0] != 0x30 {
+			t.Fatal(row, err)
+		}
+	}
+	if _, err := reader.ReadRow(); err != io.EOF {
+		t.Fatal(err)
+	}
+}
+
+// A writer takes pages and what is left of damaged ones as they are.
+func TestWriter(t *testing.T) {
+	fax, err := faxpages.Open("../samples/damaged-fourth-page.tif")
+	if err != nil {
+		t.Fatal(err)
+	}
+	var out bytes.Buffer
+	writer := faxpages.NewWriter(&out)
+	if writer.Close() == nil {
+		t.Fatal("a file without a page is written")
+	}
+	left, _ := fax.Salvage(3)
+	page, _ := fax.Page(0)
+	for _, sheet := range []faxpages.Sheet{page, left} {
+		if err := writer.Add(sheet); err != nil {
+			t.Fatal(err)
+		}
+	}
+	if err := writer.Close(); err != nil {
+		t.Fatal(err)
+	}
+	for number, wanted := range []*faxpages.Raster{&page.Raster, &left.Raster} {
+		written, err := faxpages.New(out.Bytes()).Page(number)
+		if err != nil || !reflect.DeepEqual(&written.Raster, wanted) || written.Form.X != page.Form.X {
+			t.Fatal(number, written, err)
+		}
+	}
+	pages, err := faxpages.Write([]*faxpages.Page{page, {Form: left.Form, Raster: left.Raster}}, 4)
+	if err != nil || !bytes.Equal(pages, out.Bytes()) {
+		t.Fatal("Write makes another file", err)
+	}
+}
+
+// A file of a page whose rows are long and short.
+func drawn(t *testing.T) []byte {
+	t.Helper()
+	raster := faxpages.Raster{Width: 300, Rows: 60}
+	for at := 0; at < raster.Rows*raster.Stride(); at++ {
+		raster.Packed = append(raster.Packed, []byte{0, 0, 0xFF, byte(at * at), 0, 0, byte(at)}[(at+at/38)%7])
+	}
+	file, err := faxpages.Write([]*faxpages.Page{{Form: faxpages.NewForm(300, 60, faxpages.MH), Raster: raster}}, 4)
+	if err != nil {
+		t.Fatal(err)
+	}
+	return file
+}
+
+// What is left one after another is what is left at once.
+func TestSalvagedRows(t *testing.T) {
+	fax, err := faxpages.Open("../samples/damaged-fourth-page.tif")
+	if err != nil {
+		t.Fatal(err)
+	}
+	whole, _ := fax.Salvage(3)
+	row, stretches := 0, 0
+	fax.SalvagedRows(3)(func(left faxpages.Left, err error) bool {
+		if left.Row != nil {
+			if whole.IsLost(row) || left.Row.Number != row || !bytes.Equal(left.Row.Packed, whole.Row(row)) {
+				t.Fatal(row, left.Row)
+			}
+			row++
+		} else {
+			if !whole.IsLost(row) || *left.Lost != whole.Lost[stretches] {
+				t.Fatal(row, left.Lost)
+			}
+			row += left.Lost.Rows
+			stretches++
+		}
+		return err == nil
+	})
+	if row != whole.Rows || stretches != 1 {
+		t.Fatal(row, stretches)
+	}
+	var end error
+	fax.SalvagedRows(9)(func(_ faxpages.Left, err error) bool { end = err; return true })
+	if end != faxpages.ErrOutside {
+		t.Fatal(end)
 	}
 }

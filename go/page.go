@@ -71,10 +71,49 @@ type Stretch struct {
 
 // Salvaged is a salvaged page or strip: lost rows are white.
 type Salvaged struct {
+	Form Form
 	Raster
 	Lost []Stretch
 	// Of a strip of unknown height: the fault with which its rows end, or 0.
 	End FaultNumber
+}
+
+// IsLost says whether a row is lost, by its number from 0.
+func (s *Salvaged) IsLost(row int) bool {
+	for _, lost := range s.Lost {
+		if lost.First <= row && row < lost.First+lost.Rows {
+			return true
+		}
+	}
+	return false
+}
+
+// Left is what is left of a page, in the order of its rows: a row that is found, or rows that are lost. The other is nil.
+type Left struct {
+	Row  *Row
+	Lost *Stretch
+}
+
+// SalvagedRows is what Salvage finds, one after another from the top down.
+func (f Fax) SalvagedRows(page int) Seq[Left] {
+	return func(yield func(Left, error) bool) {
+		left, err := f.Salvage(page)
+		if err != nil {
+			yield(Left{}, err)
+			return
+		}
+		lost := left.Lost
+		for number, goesOn := 0, true; goesOn && number < left.Rows; {
+			if len(lost) > 0 && lost[0].First == number {
+				goesOn = yield(Left{Lost: &lost[0]}, nil)
+				number += lost[0].Rows
+				lost = lost[1:]
+			} else {
+				goesOn = yield(Left{Row: &Row{page, number, left.Width, left.Row(number)}}, nil)
+				number++
+			}
+		}
+	}
 }
 
 // A call that salvages, and its status.
@@ -107,6 +146,7 @@ func (f Fax) Salvage(page int) (*Salvaged, error) {
 		lost *C.struct_faxpages_lost, most C.size_t, told *C.struct_faxpages_told) C.uint32_t {
 		return C.faxpages_salvage(file, length, C.uint32_t(page), &given, out, room, stride, lost, most, told)
 	})
+	made.Form = form
 	return made, errorOf(status, &told.fault)
 }
 

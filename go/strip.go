@@ -57,7 +57,7 @@ func Strip(data []byte, form StripForm) Seq[Row] {
 	}
 }
 
-// SalvageStrip returns the readable rows of a damaged strip.
+// SalvageStrip returns the readable rows of a damaged strip. Its form is that of NewForm.
 func SalvageStrip(data []byte, form StripForm) (*Salvaged, error) {
 	if !form.isValid() {
 		return nil, ErrOptions
@@ -72,6 +72,7 @@ func SalvageStrip(data []byte, form StripForm) (*Salvaged, error) {
 	for rows := 1024; form.Rows == 0 && status == C.FAXPAGES_NO_ROOM; rows = int(told.row) {
 		made, told, status = salvaged(form.Width, rows, call)
 	}
+	made.Form = NewForm(form.Width, made.Rows, form.Coding)
 	if form.Rows == 0 && status == C.FAXPAGES_FAULT {
 		made.End = FaultNumber(told.fault.number)
 		return made, nil
@@ -106,19 +107,9 @@ func Write(pages []*Page, k int) ([]byte, error) {
 	written := C.struct_faxpages_written{total: C.uint32_t(len(pages))}
 	file := make([]byte, 65536)
 	for _, page := range pages {
-		form := page.Form.written(page.Rows)
-		packed, length := bytesOf(page.Packed)
-		for {
-			status := C.faxpages_add_page(&form, C.uint32_t(k), packed, length, C.size_t(page.Stride()),
-				(*C.uint8_t)(&file[0]), C.size_t(len(file)), &written)
-			if status == C.FAXPAGES_NO_ROOM {
-				file = append(file, make([]byte, len(file))...)
-				continue
-			}
-			if err := errorOf(status, &C.struct_faxpages_fault{}); err != nil {
-				return nil, err
-			}
-			break
+		var err error
+		if file, err = addPage(file, &written, page.Form, &page.Raster, k); err != nil {
+			return nil, err
 		}
 	}
 	return file[:written.len], nil
@@ -136,7 +127,7 @@ func (f Form) written(rows int) C.struct_faxpages_form {
 	if strip > 0 {
 		made.strips = C.uint32_t((rows + strip - 1) / strip)
 	}
-	if f.Aligned {
+	if f.Aligned && f.Coding != MMR {
 		made.aligned = 1
 	}
 	return made
