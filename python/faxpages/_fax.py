@@ -8,7 +8,8 @@ import sys
 import threading
 from dataclasses import dataclass, field
 from fractions import Fraction
-from typing import Any, Iterator, List, NamedTuple, Optional, Sequence, SupportsIndex, Tuple, Union, overload
+from typing import (
+    TYPE_CHECKING, Any, Iterator, List, NamedTuple, NoReturn, Optional, Sequence, SupportsIndex, Tuple, Union, overload)
 
 from . import _library as _c
 from ._array import Array
@@ -29,6 +30,16 @@ from .faults import Fault, FaxError, OutsideError
 # How many forms are read at a time, at most.
 _FORMS = 65536
 _CODINGS = {1: "mh", 2: "mr", 3: "mmr"}
+# What is looked for in a Fax, and which call has it.
+_GUESSED = {
+    "width": "each page has its own, as fax[0].width", "height": "each page has its rows, as fax[0].rows",
+    "n_frames": "len(fax) is how many pages it has", "close": "nothing is open: a file is read whole, and closed",
+    "read": "fax.rows() has its rows, and fax[0].packed() the bytes of a page",
+    "runs": "each row has them: [row.runs() for row in fax.rows()]",
+    "salvage": "each page has it, as fax[0].salvaged()", "salvaged": "each page has it, as fax[0].salvaged()",
+    "image": "each page has one, as fax[0].image()", "array": "each page has one, as fax[0].array()",
+    "save": "faxpages.write(fax, path) writes it", "write": "faxpages.write(fax, path) writes it",
+    "received": "each page has it, as fax[0].received"}
 
 
 class _Listed(NamedTuple):
@@ -117,7 +128,7 @@ class Page:
     x: Fraction
     y: Fraction
     unit: int
-    _ahead: Ahead = field(default_factory=Ahead, repr=False, compare=False)
+    _ahead: Ahead = field(default_factory=Ahead, init=False, repr=False, compare=False)
 
     def __iter__(self) -> Iterator[Row]:
         return self._ahead.rows_of(self.fax._data, self.number, self.rows)
@@ -253,6 +264,9 @@ class Fax(Sequence[Page]):
     >>> fax[4]
     Traceback (most recent call last):
     faxpages.faults.OutsideError: the file has no page 4
+    >>> fax.n_frames
+    Traceback (most recent call last):
+    AttributeError: a Fax has no 'n_frames': len(fax) is how many pages it has
     """
 
     def __init__(self, data: ReadableBuffer) -> None:
@@ -339,6 +353,20 @@ class Fax(Sequence[Page]):
                 return
             yield self._page(number, form, ahead)
 
+    @property
+    def forms(self) -> Iterator[Page]:
+        """The pages in order, as pages: each says its form, and no row is read for that.
+
+        >>> [(form.width, form.rows) for form in faxpages.open("samples/three-pages.tif").forms]
+        [(8, 1), (8, 3), (8, 2)]
+        """
+        return self.pages
+
+    if not TYPE_CHECKING:
+        def __getattr__(self, name: str) -> NoReturn:
+            hint = _GUESSED.get(name)
+            raise AttributeError(f"a Fax has no {name!r}{': ' + hint if hint else ''}")
+
     def page(self, number: SupportsIndex) -> Page:
         """A page by its number. The file's directories are followed up to it, unless it comes soon after the last one
         that this thread has asked for.
@@ -357,10 +385,12 @@ class Fax(Sequence[Page]):
     def _page(self, number: int, form: _c.Form, ahead: Ahead) -> Page:
         if form.coding not in _CODINGS:
             raise FaxError(f"libfaxpages answered with the unknown coding {form.coding}")
-        return Page(
+        made = Page(
             self, number, form.width, form.rows, _CODINGS[form.coding], form.order, bool(form.aligned),
             bool(form.exchanged), form.rows_per_strip, form.strips, fraction(form.x_numerator, form.x_denominator),
-            fraction(form.y_numerator, form.y_denominator), form.unit, ahead)
+            fraction(form.y_numerator, form.y_denominator), form.unit)
+        object.__setattr__(made, "_ahead", ahead)
+        return made
 
     def rows(self, cursor: Optional[Cursor] = None) -> Iterator[Row]:
         """All rows from a cursor on, page by page. A fault is raised after the rows before it.

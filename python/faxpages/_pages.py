@@ -10,11 +10,12 @@ from ._fax import Page
 from ._image import Image
 from ._raster import Number, Raster, resolution
 from ._rows import Row
+from ._salvaged import Salvaged
 from ._source import ArrayLike, ReadableBuffer
 
-# A page to be written: a page of a file, a raster, an image of Pillow in mode 1, an array of two dimensions whose items
-# are bools (rows by pels, True for black), or its rows.
-Writable = Union[Page, Raster, Image, ReadableBuffer, ArrayLike, Sequence[Row]]
+# A page to be written: a page of a file, what is left of one, a raster, an image of Pillow in mode 1, an array of two
+# dimensions whose items are bools (rows by pels, True for black), or its rows.
+Writable = Union[Page, Salvaged, Raster, Image, ReadableBuffer, ArrayLike, Sequence[Row]]
 # The digits of a row's pels, by its bools, each of which is a byte: what is not 0 is true.
 _DIGITS = b"0" + 255 * b"1"
 
@@ -23,6 +24,8 @@ def raster_of(page: Writable) -> Raster:
     """The raster of what is written as a page. A damaged page raises its fault."""
     if isinstance(page, Page):
         return page.raster()
+    if isinstance(page, Salvaged):
+        return page.raster
     if isinstance(page, Raster):
         return page
     if _is_image(page):
@@ -33,8 +36,8 @@ def raster_of(page: Writable) -> Raster:
         rows = list(page)
         if all(isinstance(row, Row) for row in rows):
             return _of_rows(rows)
-    raise TypeError("a page is a Page, a Raster, an image of Pillow, an array of bools, or rows of one width, not "
-                    f"{type(page).__name__}")
+    raise TypeError("a page is a Page, a Salvaged, a Raster, an image of Pillow, an array of bools, or rows of one "
+                    f"width, not {type(page).__name__}")
 
 
 def with_dpi(raster: Raster, dpi: Union[None, Number, Tuple[Number, Number]]) -> Raster:

@@ -34,6 +34,15 @@ class Stretch(NamedTuple):
         """
         return self.first + self.rows - 1
 
+    @property
+    def fault(self) -> str:
+        """The name of the first one's fault, as name.
+
+        >>> faxpages.Stretch(0, 1, "MissingEol").fault
+        'MissingEol'
+        """
+        return self.name
+
 
 @dataclass(frozen=True)
 class Salvaged:
@@ -50,6 +59,33 @@ class Salvaged:
     # At unknown height: whether an end mark follows the rows, and the name of the fault with which they end, if any.
     end_mark: bool = False
     fault: Optional[str] = None
+
+    @property
+    def width(self) -> int:
+        """The pels of a row, as those of the raster.
+
+        >>> faxpages.open("samples/three-pages.tif").page(2).salvaged().width
+        8
+        """
+        return self.raster.width
+
+    @property
+    def packed(self) -> bytes:
+        """The bytes of all rows, as those of the raster.
+
+        >>> faxpages.open("samples/three-pages.tif").page(2).salvaged().packed
+        b'\\x18\\x00'
+        """
+        return self.raster.packed
+
+    def is_lost(self, row: int) -> bool:
+        """Whether a row is lost, by its number.
+
+        >>> left = faxpages.open("samples/three-pages.tif").page(2).salvaged()
+        >>> left.is_lost(0), left.is_lost(1)
+        (False, True)
+        """
+        return any(stretch.first <= row <= stretch.last for stretch in self.lost)
 
     @property
     def found(self) -> int:
