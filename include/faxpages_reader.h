@@ -1,5 +1,5 @@
 /* faxpages_reader.h: the rows of a fax one by one, over the calls of faxpages.h, with no buffers and no
- * places of your own. All of it stands in this header: include it, and link with -lfaxpages.
+ * places of your own. It is all in this header: include it, and link with -lfaxpages.
  *
  *     struct faxpages_reader *reader = faxpages_reader_open(file, len, FAXPAGES_READ_RUNS);
  *     struct faxpages_reader_row row;

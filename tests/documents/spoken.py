@@ -42,7 +42,7 @@ a row's page and number | page, row | Row.page, Row.number | page, number | Page
 runs | faxpages_runs, faxpages_runs_from | Row.runs | Fax::runs, runs, RowRuns | Fax.Runs, Row.Runs, RowRuns | runs
 changing elements | faxpages_changes, faxpages_changes_from | - | Fax::changes, changes, RowChanges | - | -
 where to go on | faxpages_place, faxpages_place_text, faxpages_place_parse | Cursor | Cursor | - | -
-what is left of a page | faxpages_salvage | Page.salvaged, Salvaged | Fax::salvaged, Salvaged | Fax.Salvage, Salvaged | salvage
+a page, salvaged | faxpages_salvage | Page.salvaged, Salvaged | Fax::salvaged, Salvaged | Fax.Salvage, Salvaged | salvage
 the same, row by row | faxpages_salvage_from | Page.salvaged_rows | Fax::salvaged_rows, Left | Fax.SalvagedRows, Left | salvage, Left
 rows that are lost | faxpages_lost | Stretch | Stretch | Stretch | Lost
 the first of them, how many, and why | row, rows, fault | Stretch.first, Stretch.rows, Stretch.fault, Stretch.name | first, rows, fault | First, Rows, Fault | first, rows, fault
@@ -54,7 +54,7 @@ a conversion | faxpages_convert, faxpages_options, faxpages_converted | convert 
 a file that is written | faxpages_add_page, faxpages_end_pages, faxpages_written | write, encode | Writer | Writer, NewWriter, Write | salvaged
 bare T.4 or T.6 data | faxpages_strip, faxpages_strip_rows | strip | Strip, StripForm | Strip, StripForm | -
 the same, as it comes | faxpages_strip_part | StripReader | StripReader | NewReader, Reader | -
-what is left of it | faxpages_salvage_strip | salvage_strip | Strip::salvaged | SalvageStrip | -
+the same, salvaged | faxpages_salvage_strip | salvage_strip | Strip::salvaged | SalvageStrip | -
 a check of it | faxpages_strip_check, faxpages_strip_report | check_strip, StripReport | Strip::check, StripReport | - | -
 rows coded as such data | faxpages_strip_code, faxpages_strip_code_runs | encode_strip | code_strip, code_strip_runs | Code | -
 a fault | faxpages_fault, faxpages_fault_name | Fault | Error, Fault | Fault, FaultNumber | Fault
