@@ -104,7 +104,7 @@ static uint32_t count_rows(const uint8_t *data, size_t len, const struct faxpage
     uint32_t status = faxpages_strip_check(data, len, form, &report);
     *whole = status == FAXPAGES_END;
     if (status == FAXPAGES_FAULT) failed("the data", status, &report.fault);
-    else if (status != FAXPAGES_END && status != FAXPAGES_DATA_END) return failed("the data", status, NULL);
+    else if (status != FAXPAGES_END && status != FAXPAGES_END_OF_DATA) return failed("the data", status, NULL);
     return report.rows;
 }
 

@@ -59,9 +59,13 @@ enum faxpages_status {
     FAXPAGES_NO_PLACE = 6, /* the text is not that of a place */
     FAXPAGES_NO_OPTIONS = 7, /* the options or the form are invalid, or a raster is too short */
     FAXPAGES_TOO_LARGE = 8, /* the file would have more than 268435456 bytes */
-    FAXPAGES_DATA_END = 9, /* rows of unknown height end with the data, after a whole row */
+    FAXPAGES_DATA_END = 9, /* FAXPAGES_END_OF_DATA: rows of unknown height end with the data, after
+                            * a whole row */
     FAXPAGES_MORE = 10     /* the next row is not settled by these bytes of a strip */
 };
+
+/* The same by a name that is not one letter short of the fault FAXPAGES_DATA_ENDS: use this one. */
+#define FAXPAGES_END_OF_DATA FAXPAGES_DATA_END
 
 /* The faults: below 100 of a file, of which those from 7 to 10 have the tag of a field; from 101 on
    of a strip's data; from 201 on of a conversion. */
@@ -365,13 +369,13 @@ struct faxpages_strip {
 
    If the height is unknown, `rows` of the form is 0. Then there may be up to 1000000 rows, and the
    call reports how they end: END, if an end mark is where the next row would be, a return to
-   control in MH and MR, the end of facsimile block in MMR; DATA_END, if at least one row was read
-   and only zeros remain; FAULT, if the next row cannot be read, as with DATA_ENDS if it is cut; or
-   FAULT with TOO_MANY_ROWS, if more follows 1000000 rows. At row 1000000 the runs are not looked
-   at, and bits after the strip are its end; a row after that is OUTSIDE.
+   control in MH and MR, the end of facsimile block in MMR; END_OF_DATA, if at least one row was
+   read and only zeros remain; FAULT, if the next row cannot be read, as with DATA_ENDS if it is
+   cut; or FAULT with TOO_MANY_ROWS, if more follows 1000000 rows. At row 1000000 the runs are not
+   looked at, and bits after the strip are its end; a row after that is OUTSIDE.
 
-   FAULT leaves the place at the row that was next, and so do END and DATA_END if `rows` is 0. So if
-   the strip grows, call again after DATA_ENDS from that place with more bytes, or call
+   FAULT leaves the place at the row that was next, and so do END and END_OF_DATA if `rows` is 0. So
+   if the strip grows, call again after DATA_ENDS from that place with more bytes, or call
    faxpages_strip_part.
 
    Any place may be passed: row `row` of the strip is read after `bits` bits of it, over a row of
@@ -412,7 +416,7 @@ uint32_t faxpages_strip_part(const uint8_t *strip, size_t strip_len,
    the last one too must be followed by an EOL or zeros, unless it is row 1,000,000. MEMORY comes
    before NO_ROOM, and if the raster has no room, `row` of `told` is how many rows there are: 3 MB
    of data can have 1,000,000. Instead of DONE the call reports how they end, as faxpages_strip_rows
-   does: END, DATA_END, or FAULT, whose row is the lost one, the last; for TOO_MANY_ROWS it is
+   does: END, END_OF_DATA, or FAULT, whose row is the lost one, the last; for TOO_MANY_ROWS it is
    1,000,000. */
 uint32_t faxpages_salvage_strip(const uint8_t *strip, size_t strip_len,
                                 const struct faxpages_strip *form, uint8_t *out, size_t out_room,
@@ -436,7 +440,7 @@ struct faxpages_strip_report {
 
    If the height is unknown, `rows` of the form is 0, and `rows` of the report says how many there
    are. They end as for faxpages_strip_rows: END, with an end mark, maybe before any row, or
-   DATA_END, both with the notes on a strip of so many rows; or FAULT. */
+   END_OF_DATA, both with the notes on a strip of so many rows; or FAULT. */
 uint32_t faxpages_strip_check(const uint8_t *strip, size_t strip_len,
                               const struct faxpages_strip *form,
                               struct faxpages_strip_report *report);

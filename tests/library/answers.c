@@ -154,7 +154,7 @@ static int is_found_so(const struct end *end) {
     const struct faxpages_strip form = {WIDTH, 0, 3, 1, 0};
     struct faxpages_strip_report report;
     return faxpages_strip_check(end->bytes, end->len, &form, &report) == end->status && report.rows == end->rows &&
-           report.no_end_of_block == (end->status == FAXPAGES_DATA_END) && !report.return_to_control &&
+           report.no_end_of_block == (end->status == FAXPAGES_END_OF_DATA) && !report.return_to_control &&
            report.data_after_end == (end->status == FAXPAGES_END && end->rows == 0) &&
            report.fault.number == end->fault && report.fault.row == (end->fault ? end->rows : 0);
 }
@@ -170,8 +170,8 @@ static void uncounted_strips(void) {
     static const struct end ends[] = {
         {strip, 5, FAXPAGES_END, 2, 0, "two rows end with an end mark"},
         {marked, 4, FAXPAGES_END, 0, 0, "an end mark is an end before any row"},
-        {strip, 2, FAXPAGES_DATA_END, 2, 0, "two rows end with the data"},
-        {strip, 3, FAXPAGES_DATA_END, 2, 0, "with eleven zeros too"},
+        {strip, 2, FAXPAGES_END_OF_DATA, 2, 0, "two rows end with the data"},
+        {strip, 3, FAXPAGES_END_OF_DATA, 2, 0, "with eleven zeros too"},
         {strip, 0, FAXPAGES_FAULT, 0, 101, "no data is a fault"},
         {strip, 1, FAXPAGES_FAULT, 0, 101, "a cut row is a fault"},
         {strip, 4, FAXPAGES_FAULT, 2, 107, "a cut end mark is a fault"},
@@ -245,7 +245,7 @@ static void bad_runs(void) {
     see(answers(form, at(1, bits + 1, FAXPAGES_RUNS + 1), FAXPAGES_OUTSIDE, FAXPAGES_MORE), "nor are runs that are lacking");
     see(answers(form, at(ROWS + 1, bits + 1, 2), FAXPAGES_OUTSIDE, FAXPAGES_OUTSIDE), "a row that the form has not is OUTSIDE");
     form.rows = 0;
-    see(answers(form, at(1000000, bits + 1, 2), FAXPAGES_DATA_END, FAXPAGES_MORE),
+    see(answers(form, at(1000000, bits + 1, 2), FAXPAGES_END_OF_DATA, FAXPAGES_MORE),
         "at row 1000000 of rows that nobody counted neither runs nor bits are OUTSIDE: the data end");
     see(answers(form, at(1000000, 0, FAXPAGES_RUNS + 1), FAXPAGES_FAULT, FAXPAGES_FAULT), "or there are too many rows");
     see(answers(form, at(1000001, 0, 0), FAXPAGES_OUTSIDE, FAXPAGES_OUTSIDE), "a row after that is OUTSIDE");
