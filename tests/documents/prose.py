@@ -2,7 +2,8 @@
 """The words of the documents, by docs/STYLE.md: a help for writers, and a test.
 
     tests/documents/prose.py              prints for each document its words, its long sentences and its long paragraphs
-    tests/documents/prose.py DOCUMENT     prints these sentences and paragraphs, and the phrases that go
+    tests/documents/prose.py DOCUMENT     prints these sentences and paragraphs, the phrases that go, and the README's
+                                          lines with a number that no test keeps
 
 tests/documents/run takes the claims: none has a phrase of the table 'Phrases that go', no link is dead, each page is
 linked to, and no document, alone or with others, has more words than counts.txt says. Long sentences fail nothing."""
@@ -28,6 +29,9 @@ FIRST = "README.md"
 MOST_WORDS = 30
 # Of a paragraph, an item or a line of a table of the README, as it is read.
 MOST_CHARACTERS = 300
+# The numbers of the README that tests keep: of damage, of speed and of what ./test needs; and numbers that are names.
+KEPT = re.compile(r"(?m)^(?:\| M\w+ \||Of \d+ (?:pages|copies)|The geometric mean|No reader sees|`\./test` takes).*$")
+NAMES = re.compile(r"RFC \d+|TIFF [\d.]+|T\.\d|x86-64|Rust [\d.]+|Java \d+|Rows\d+|Debian \d+")
 # What may be between two words of a phrase: blanks, and the sign of a comment in the next line.
 BETWEEN = r"\s+(?:(?:\*|//[/!]?|--|\.\\\")\s+)?"
 
@@ -89,6 +93,14 @@ def long_paragraphs(name: str) -> list[str]:
     return [it for it in paragraphs(prose(name)) if len(it) > MOST_CHARACTERS] if name == FIRST else []
 
 
+def unkept_numbers(name: str) -> list[str]:
+    """The lines of the README with a number that no test keeps."""
+    if name != FIRST:
+        return []
+    lines = NAMES.sub("", KEPT.sub("", prose(name))).splitlines()
+    return [line for line in lines if re.search(r"\d\d", line)]
+
+
 def gone(name: str) -> list[str]:
     """The phrases that go and that a document has."""
     text = read(*name.split("/"))
@@ -146,6 +158,8 @@ def note() -> str:
 def show(name: str) -> None:
     for phrase in gone(name):
         print(f"goes: {phrase}")
+    for line in unkept_numbers(name):
+        print(f"no test keeps: {line}")
     for kind, found in (("words", long_sentences(name)), ("characters", long_paragraphs(name))):
         for text in found:
             print(f"{len(text.split()) if kind == 'words' else len(text)} {kind}: {text}")
