@@ -29,7 +29,7 @@ from .faults import Fault, FaxError, OutsideError
 
 # How many forms are read at a time, at most.
 _FORMS = 65536
-_CODINGS = {1: "mh", 2: "mr", 3: "mmr"}
+CODINGS = {1: "mh", 2: "mr", 3: "mmr"}
 # What is looked for in a Fax, and which call has it.
 _GUESSED = {
     "width": "each page has its own, as fax[0].width", "height": "each page has its rows, as fax[0].rows",
@@ -383,10 +383,10 @@ class Fax(Sequence[Page]):
         return self._page(number, form, kept.ahead)
 
     def _page(self, number: int, form: _c.Form, ahead: Ahead) -> Page:
-        if form.coding not in _CODINGS:
+        if form.coding not in CODINGS:
             raise FaxError(f"libfaxpages answered with the unknown coding {form.coding}")
         made = Page(
-            self, number, form.width, form.rows, _CODINGS[form.coding], form.order, bool(form.aligned),
+            self, number, form.width, form.rows, CODINGS[form.coding], form.order, bool(form.aligned),
             bool(form.exchanged), form.rows_per_strip, form.strips, fraction(form.x_numerator, form.x_denominator),
             fraction(form.y_numerator, form.y_denominator), form.unit)
         object.__setattr__(made, "_ahead", ahead)

@@ -182,9 +182,7 @@ class Database:
 
     def _damaged_rows(self) -> List[str]:
         """What is said of rows that are not as they were written; nothing where all are."""
-        (noted,) = self._base.execute("SELECT max(value) FROM job NOT INDEXED WHERE name = 'sum'").fetchone()
-        by_index = {name: self._value(name) for name, _ in self._job()}
-        if noted not in (None, str(self._sum_of_job())) or by_index != dict(self._job()):
+        if not self._is_job_right():
             return ["what it says of itself is not as it was written"]
         for rows in (f"{_JOINED} WHERE originals.sum IS NOT {_SUM}",
                      *(f"{name} NOT INDEXED WHERE path NOT IN (SELECT path FROM faxes)"
@@ -197,6 +195,17 @@ class Database:
                 name = ascii(text_of(bytes_of(path)))[1:-1]
                 return [f"{count} of its rows are not as they were written, as that of {name}"]
         return []
+
+    def _is_job_right(self) -> bool:
+        """Whether what the table says of itself is as it was written, all of it as of one moment: a run may write it
+        meanwhile."""
+        self._base.execute("BEGIN")
+        try:
+            (noted,) = self._base.execute("SELECT max(value) FROM job NOT INDEXED WHERE name = 'sum'").fetchone()
+            by_index = {name: self._value(name) for name, _ in self._job()}
+            return noted in (None, str(self._sum_of_job())) and by_index == dict(self._job())
+        finally:
+            self._base.execute("COMMIT")
 
     def _job(self) -> List[Tuple[str, str]]:
         """What the table says of itself, but for the sum of it."""

@@ -10,8 +10,8 @@ import threading
 from concurrent.futures import FIRST_COMPLETED, Executor, Future, ThreadPoolExecutor, wait
 from typing import Any, Callable, Dict, Iterator, List, Optional, Tuple
 
-from ._fax import Done, Found, Job, NoEngine, NoWorker, Waiting
-from ._worker import Worker
+from ._fax import Done, Job, NoEngine, NoWorker, Waiting
+from ._worker import Worker, packed, unpacked
 
 # Every so many seconds the run has its turn, whether something has come or not.
 _TURN = 1.0
@@ -72,7 +72,7 @@ def run_batch(job: Job, timeout: Optional[float], batch: List[Waiting]) -> List[
 def run_packed(job: Job, timeout: Optional[float], batch: bytes) -> bytes:
     """The same by bytes, into which Dask does not look."""
     done = run_batch(job, timeout, [Waiting._make(fax) for fax in pickle.loads(batch)])
-    return pickle.dumps([(tuple(found), *rest) for found, *rest in done])
+    return pickle.dumps([packed(one) for one in done])
 
 
 Run = Callable[[List[Waiting]], "Future[Any]"]
@@ -81,7 +81,7 @@ Run = Callable[[List[Waiting]], "Future[Any]"]
 def _made(done: Any) -> List[Done]:
     """What came of some faxes, of what an engine has handed back."""
     if isinstance(done, bytes):
-        return [Done(Found._make(it[0]), *it[1:]) for it in pickle.loads(done)]
+        return [unpacked(it) for it in pickle.loads(done)]
     return list(done)
 
 

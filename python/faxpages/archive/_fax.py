@@ -10,7 +10,6 @@ import os
 import stat
 import subprocess
 import time
-from fractions import Fraction
 from typing import Any, Dict, Iterator, List, NamedTuple, Optional, Tuple
 
 import faxpages
@@ -22,14 +21,20 @@ from ._incoming import why_incoming
 from ._lacks import PRINTED, lacks
 from ._marks import Owner, Place
 from .._directory import kind_of
+from .._fax import CODINGS
+from .._told import refusal
 
-# The largest fax, as of the program faxpages; a copy may have as much again, and what stands before its rows.
-_MOST = 268435456
+# The largest fax, as of the program faxpages; and the most bytes of its fields.
+_MOST = _MOST_FIELDS = 268435456
+# So many pages are listed at first, and then at a time at most.
+_FORMS, _MOST_FORMS = 16, 65536
 # What comes of a fax: it is good, it has a fault, it is no fax that is read here, or it cannot be read or written.
 GOOD, FAULTY, OTHER, NOT_READ = 0, 1, 2, 3
 _TURNED = "it has other bytes than before, and the same size and time of change"
 # What the name of a copy's fields ends with.
 FIELDS = b".fields"
+# A system counts the times of files in steps, of a hundredth of a second at most: what is written in one has one time.
+_STEP = 0.02
 
 
 class NoEngine(Exception):
@@ -274,7 +279,7 @@ def _stands(place: Place, digest: str, fax: os.stat_result) -> Tuple[Stood, Seen
     """A copy that has the digest that the table knows, and is not the fax itself under another name; what it is known
     by, and its bytes."""
     try:
-        data, told = files.read(place, 2 * _MOST)
+        data, told = files.read(place, files.MOST)
     except files.NotOurs as error:
         raise _NotWritten("NoCopy", str(error)) from None
     if (told.st_dev, told.st_ino) == (fax.st_dev, fax.st_ino):
@@ -293,7 +298,7 @@ def _read(path: bytes, follow: bool, looks: bool) -> Tuple[bytes, os.stat_result
     except OSError as error:
         raise _NotRead("Open", error.strerror) from None
     try:
-        told = os.fstat(file)
+        told = _settled(file)
         if not stat.S_ISREG(told.st_mode):
             raise _NotRead("Read", "no regular file")
         if told.st_size > _MOST:
@@ -306,6 +311,15 @@ def _read(path: bytes, follow: bool, looks: bool) -> Tuple[bytes, os.stat_result
         raise _NotRead("Read", error.strerror) from None
     finally:
         os.close(file)
+
+
+def _settled(file: int) -> os.stat_result:
+    """What the system tells of a file, once what is written to it from now on gets another time."""
+    told = os.fstat(file)
+    if 0 <= time.time() - told.st_mtime < _STEP:
+        time.sleep(_STEP)
+        told = os.fstat(file)
+    return told
 
 
 def _all_of(file: int, size: int) -> bytes:
@@ -323,8 +337,9 @@ def _checked(data: bytes, fax: Waiting) -> Found:
     report = faxpages.check(data)
     notes = sorted({(note.number, note.name) for note in report.notes})
     status = FAULTY if report.fault else GOOD
-    found = _described(data, Found(
-        *fax[:3], status, report.pages, report.rows, notes=" ".join(name for _, name in notes)))
+    width, x, y, codings = _described(data)
+    found = Found(*fax[:3], status, report.pages, report.rows, width, x, y, codings,
+                  " ".join(name for _, name in notes))
     if report.fault:
         kind = kind_of(data, report.fault)
         return found._replace(status=OTHER if kind else FAULTY, fault=report.fault.name, fault_page=report.fault.page,
@@ -344,23 +359,29 @@ def _counted(data: bytes, found: Found) -> Found:
         return found._replace(why=str(error))
 
 
-def _described(data: bytes, found: Found) -> Found:
-    """The row with the width and the resolution of the first page, and the codings of all that can be listed."""
+def _described(data: bytes) -> Tuple[Optional[int], Optional[float], Optional[float], str]:
+    """The width and the resolution of the first page, and the codings of all that can be listed."""
     codings: Dict[str, None] = {}
-    try:
-        for page in faxpages.Fax(data).pages:
-            if not page.number:
-                found = found._replace(width=page.width, x=_to_the_inch(page.x, page.unit),
-                                       y=_to_the_inch(page.y, page.unit))
-            codings[page.coding] = None
-    except faxpages.Fault:
-        pass
-    return found._replace(codings=" ".join(codings))
+    first: Tuple[Optional[int], Optional[float], Optional[float]] = (None, None, None)
+    told, number, asked, status = _c.Told(), 0, _FORMS, _c.DONE
+    while status == _c.DONE:
+        forms = (_c.Form * asked)()
+        status = _c.library.faxpages_forms(data, len(data), number, forms, asked, told)
+        if not number and told.count:
+            form = forms[0]
+            first = (form.width, _to_the_inch(form.x_numerator, form.x_denominator, form.unit),
+                     _to_the_inch(form.y_numerator, form.y_denominator, form.unit))
+        codings.update((CODINGS[form.coding], None) for form in forms[:told.count])
+        # Each call follows the chain of pages from its beginning.
+        number, asked = number + told.count, min(2 * asked, _MOST_FORMS)
+    if status not in (_c.END, _c.FAULT):
+        raise refusal(status)
+    return (*first, " ".join(codings))
 
 
-def _to_the_inch(resolution: Fraction, unit: int) -> float:
+def _to_the_inch(numerator: int, denominator: int, unit: int) -> float:
     """A resolution to the inch; where it has no unit, as it stands."""
-    return float(resolution * Fraction(254, 100) if unit == 3 else resolution)
+    return numerator * 254 / (denominator * 100) if unit == 3 else numerator / denominator
 
 
 def _fields_of(path: bytes, data: bytes) -> bytes:
@@ -370,16 +391,21 @@ def _fields_of(path: bytes, data: bytes) -> bytes:
         with open(os.dup(file), "wb") as whole:
             whole.write(data)
         name = b"/dev/fd/%d" % file
-        ran = subprocess.run([b"tiffdump", b"-m", b"%d" % PRINTED, name], stdin=subprocess.DEVNULL,
-                             stdout=subprocess.PIPE, stderr=subprocess.DEVNULL, check=False, pass_fds=[file])
+        with subprocess.Popen([b"tiffdump", b"-m", b"%d" % PRINTED, name], stdin=subprocess.DEVNULL,
+                              stdout=subprocess.PIPE, stderr=subprocess.DEVNULL, pass_fds=[file]) as process:
+            assert process.stdout
+            printed = process.stdout.read(_MOST_FIELDS + 1)
+            if len(printed) > _MOST_FIELDS:
+                process.kill()
+                raise _NotWritten("Fields", f"more than {_MOST_FIELDS} bytes")
     except OSError as error:
         raise _NotWritten("Fields", error.strerror) from None
     finally:
         os.close(file)
-    if ran.returncode:
-        raise _NotWritten("Fields", f"tiffdump ended with status {ran.returncode}")
+    if process.returncode:
+        raise _NotWritten("Fields", f"tiffdump ended with status {process.returncode}")
     head = name + b":\n"
-    return path + b":\n" + ran.stdout[len(head):] if ran.stdout.startswith(head) else ran.stdout
+    return path + b":\n" + printed[len(head):] if printed.startswith(head) else printed
 
 
 def _has_rows(copy: bytes, original: bytes) -> bool:
@@ -403,15 +429,16 @@ class _Rooms:
     ROWS, BYTES = 8192, 1 << 20
 
     def __init__(self) -> None:
-        self._free: List[Tuple[Any, Any]] = []
+        self._free: List[Tuple[Any, Any, Any]] = []
 
     @contextlib.contextmanager
-    def lent(self) -> Iterator[Tuple[Any, Any]]:
-        """Room for the lines of so many rows, and for so many of their bytes, which nobody else has meanwhile."""
+    def lent(self) -> Iterator[Tuple[Any, Any, Any]]:
+        """Room for the runs of a row, for the lines of so many rows, and for so many of their bytes, which nobody else
+        has meanwhile."""
         try:
             room = self._free.pop()
         except IndexError:
-            room = (_c.Row * self.ROWS)(), ctypes.create_string_buffer(self.BYTES)
+            room = (_c.U32 * _c.RUNS)(), (_c.Row * self.ROWS)(), ctypes.create_string_buffer(self.BYTES)
         try:
             yield room
         finally:
@@ -423,9 +450,9 @@ _rooms = _Rooms()
 
 def _batches(data: bytes) -> Iterator[Tuple[int, bytes, bytes]]:
     """The rows of a file, some thousands at a time: how the call ended, a line for each row, and their bytes."""
-    place, runs, told = _c.Place(), (_c.U32 * _c.RUNS)(), _c.Told()
+    place, told = _c.Place(), _c.Told()
     status = _c.DONE
-    with _rooms.lent() as (rows, out):
+    with _rooms.lent() as (runs, rows, out):
         while status in (_c.DONE, _c.NO_ROOM):
             status = _c.library.faxpages_rows_from(data, len(data), place, runs, _c.RUNS, rows, _Rooms.ROWS, out,
                                                    _Rooms.BYTES, told)

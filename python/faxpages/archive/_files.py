@@ -28,8 +28,10 @@ _PIECE = 1 << 20
 _AT_WORK = "another run writes it"
 # So many seconds another run may write a copy, or the worker of one that was killed, until it is told.
 _WAIT = 2.0
-# A digest of a table of version 1.4, which kept none.
-NOT_KEPT = "?"
+# A digest of a table of version 1.4, which kept none; and the digest of a file that is larger than any copy.
+NOT_KEPT, _LARGER = "?", "larger"
+# The most bytes of a copy: as many again as of the largest fax.
+MOST = 2 * 268435456
 
 
 class NotOurs(Exception):
@@ -112,6 +114,11 @@ class Root:
         except OSError:
             return None
 
+    def is_empty(self) -> bool:
+        """Whether nothing stands in the folder, as in one on which a disk is to be mounted."""
+        with os.scandir(self._folder) as entries:
+            return next(entries, None) is None
+
     def is_there(self) -> bool:
         """Whether the folder is still the one of its name."""
         try:
@@ -129,10 +136,9 @@ class Root:
         opened = os.dup(self._folder)
         try:
             for name in filter(None, folder.split(b"/")):
-                if like is not None:
-                    like = os.path.join(like, name)
-                    _make_folder(Place(opened, name), like)
-                below = os.open(name, _FOLDER | os.O_NOFOLLOW, dir_fd=opened)
+                place = Place(opened, name)
+                like = os.path.join(like, name) if like is not None else None
+                below = _folder_in(place) if like is None else _folder_like(place, like)
                 os.close(opened)
                 opened = below
                 self._refuse_other(opened)
@@ -157,9 +163,17 @@ def root_of(path: bytes, other: Optional[bytes] = None) -> Root:
     return _roots[path, other]
 
 
-def make_target(path: bytes) -> None:
-    """Makes the folder of copies."""
-    os.makedirs(path, exist_ok=True)
+def make_target(path: bytes, tree: bytes) -> None:
+    """Makes the folder of copies, if it is not there, like the tree: whom that does not let in it does not either."""
+    if os.path.isdir(path):
+        return
+    above, name = os.path.split(path)
+    os.makedirs(above, exist_ok=True)
+    folder = os.open(above, _FOLDER)
+    try:
+        _make_folder(Place(folder, name), tree)
+    finally:
+        os.close(folder)
 
 
 def lock(name: str) -> BinaryIO:
@@ -173,13 +187,27 @@ def lock(name: str) -> BinaryIO:
     return file
 
 
+def _folder_in(place: Place) -> int:
+    """The folder in a place, open."""
+    return os.open(place.name, _FOLDER | os.O_NOFOLLOW, dir_fd=place.folder)
+
+
+def _folder_like(place: Place, original: bytes) -> int:
+    """The folder in a place, open, which is made like another one where there is none."""
+    try:
+        return _folder_in(place)
+    except FileNotFoundError:
+        _make_folder(place, original)
+        return _folder_in(place)
+
+
 def _make_folder(place: Place, original: bytes) -> None:
     """Makes a folder like another one, where there is none."""
     try:
         os.mkdir(place.name, 0o700, dir_fd=place.folder)
     except FileExistsError:
         return
-    made = os.open(place.name, _FOLDER | os.O_NOFOLLOW, dir_fd=place.folder)
+    made = _folder_in(place)
     try:
         # Whoever owns it can write into it, or no copy could be.
         _become(made, os.stat(original), 0o300)
@@ -200,7 +228,9 @@ def _become(file: int, like: os.stat_result, least: int = 0) -> None:
 
 
 def digest_of(file: int) -> str:
-    """The SHA-256 of a file that is open."""
+    """The SHA-256 of a file that is open; of one that is larger than any copy no digest, since it is not read."""
+    if os.fstat(file).st_size > MOST:
+        return _LARGER
     found = hashlib.sha256()
     at = 0
     while True:
@@ -309,29 +339,30 @@ def put(place: Place, copy: Copy, is_right: Optional[Callable[[bytes], bool]]) -
         _remove_left(part)
         there, replaced = stands(place, copy)
         if there is not None:
-            return _renewed(place, copy, there)
+            return _renewed(place, copy, there, replaced)
         file = _begun(part)
         if file is not None:
             break
         if time.monotonic() > until:
             raise NotOurs(_AT_WORK)
+    mark = copy.mark()
     try:
-        _fill(file, copy)
+        _fill(file, copy, mark)
         if is_right is not None and not is_right(os.pread(file, len(copy.data) + 1, 0)):
             raise NotRight
         if not _is_of(part, file):
             raise NotOurs(_AT_WORK)
         _move(part, place, replaced)
-        return Stood(len(copy.data), time_of(os.fstat(file).st_mtime_ns), hashlib.sha256(copy.data).hexdigest(), True)
+        return Stood(len(copy.data), time_of(os.fstat(file).st_mtime_ns), mark.digest, True)
     finally:
         _end(part, file)
 
 
-def _fill(file: int, copy: Copy) -> None:
+def _fill(file: int, copy: Copy, mark: Mark) -> None:
     left = memoryview(copy.data)
     while left:
         left = left[os.write(file, left):]
-    put_mark(file, copy.mark())
+    put_mark(file, mark)
     _become(file, copy.like)
     os.utime(file, ns=(copy.like.st_atime_ns, copy.like.st_mtime_ns))
     os.fsync(file)
@@ -360,13 +391,14 @@ def _seen(place: Place) -> Optional[Seen]:
         return None
 
 
-def _renewed(place: Place, copy: Copy, there: Stood) -> Stood:
-    """A file that has the bytes already: if it is ours, it gets the mode and the time."""
+def _renewed(place: Place, copy: Copy, there: Stood, seen: Optional[Seen]) -> Stood:
+    """A file that has the bytes already: if it is ours, it gets the mode and the time, unless another one has its place
+    by now."""
     if not there.ours:
         return there
     with opened(place) as file:
-        if file is None:
-            raise NotOurs("it went while it was looked at")
+        if file is None or seen is None or not seen_of(os.fstat(file)).is_same(seen):
+            raise NotOurs("it went, or changed, while it was looked at")
         take_only(place, file)
         put_mark(file, copy.mark())
         _become(file, copy.like)

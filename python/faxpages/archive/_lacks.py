@@ -18,8 +18,9 @@ _PRIVATE = 32768
 # Fields of faxes that are registered, and that tiffdump prints whole.
 _KNOWN = frozenset([34908, 34909, 34910, 34911])
 _ASCII = 2
-# How many values of a field tiffdump is told to print.
-PRINTED = 1000000
+# How many values of a field tiffdump is told to print; and of how many values in a file it is looked whether they are
+# printed, since many fields may share them.
+PRINTED, _LOOKED = 1000000, 1 << 24
 Span = Tuple[int, int]
 
 
@@ -32,6 +33,7 @@ def lacks(data: bytes, notes: str, to: str, fields: bool) -> str:
         file = Directories(data)
         directories = list(file.all())
         total = len(directories)
+        fields = fields and sum(entry.values for _, entries in directories for entry in entries) <= _LOOKED
         for number, (_, entries) in enumerate(directories):
             found |= _lacking(file, entries, (number, total), to, fields)
         if _other_bytes(file, directories):
@@ -52,7 +54,8 @@ def _lacking(file: Directories, entries: List[Entry], place: Span, to: str, fiel
     for entry in entries:
         if entry.tag == _FOLDERS or entry.kind not in SIZES or entry.tag >= _PRIVATE and entry.tag not in _KNOWN:
             found.add("PrivateFields")
-        elif not _is_kept(file, entry, place, to) and not (fields and _is_printed(file, entry)):
+        elif "Fields" not in found and not _is_kept(file, entry, place, to) and not (
+                fields and _is_printed(file, entry)):
             found.add("Fields")
     return found
 
@@ -71,9 +74,11 @@ def _is_kept(file: Directories, entry: Entry, place: Span, to: str) -> bool:
 
 def _is_printed(file: Directories, entry: Entry) -> bool:
     """Whether tiffdump prints all of a field: a text up to its first NUL alone."""
-    if entry.kind == _ASCII and b"\0" in file.data[entry.at:entry.at + entry.values].rstrip(b"\0"):
+    if entry.values > PRINTED:
         return False
-    return entry.values <= PRINTED
+    end = entry.at + entry.values
+    nul = file.data.find(b"\0", entry.at, end) if entry.kind == _ASCII else -1
+    return nul < 0 or not file.data[nul:end].strip(b"\0")
 
 
 def _other_bytes(file: Directories, directories: List[Tuple[int, List[Entry]]]) -> bool:

@@ -42,7 +42,7 @@ def _do_tree(words: argparse.Namespace) -> int:
     with _opened(words, job) as table:
         table.set_job(job_of(job, words.share), table.where() or where_of(job))
         if job.target is not None:
-            files.make_target(job.target)
+            files.make_target(job.target, job.tree)
             walk.refuse_one_in_the_other(tree, job.target)
         return Run(words, job._replace(owner=table.owner() if job.target is not None else Owner(table.number())), table).do()
 

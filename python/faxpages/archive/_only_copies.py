@@ -38,6 +38,12 @@ class OnlyCopies(Database):
         """Notes that the copies of these faxes are the only ones no more."""
         self._base.executemany("DELETE FROM only_copies WHERE path = ?", ((kept_path(path),) for path in paths))
 
+    def knows_copies(self) -> bool:
+        """Whether copies of ours are known, be their faxes there or not."""
+        (found,) = self._base.execute(
+            "SELECT EXISTS (SELECT 1 FROM copies WHERE ours) OR EXISTS (SELECT 1 FROM only_copies)").fetchone()
+        return bool(found)
+
     def begin_verification(self) -> int:
         """Begins to look at all only copies, or goes on where that was stopped. How many are due, which is noted."""
         told = self._verification()

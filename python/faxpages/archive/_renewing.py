@@ -39,7 +39,11 @@ def renew(name: str, job: Job) -> str:
         _sweep(folder, beginning)
         number, new = tempfile.mkstemp(prefix=f"{beginning}.new-", dir=folder)
         os.close(number)
-        os.chmod(new, stat.S_IMODE(os.stat(name).st_mode))
+        told = os.stat(name)
+        with contextlib.suppress(OSError):
+            # Whose it was may write to it again, also where root makes it anew.
+            os.chown(new, told.st_uid, told.st_gid)
+        os.chmod(new, stat.S_IMODE(told.st_mode))
         with Table(new) as table:
             _take_over(table, name, job)
         os.unlink(f"{new}-lock")

@@ -138,7 +138,7 @@ class Run:
         return GOOD if status == FAULTY and self._words.faults_ok else status
 
     def _refused(self, before: int, gone: int, empty: bool) -> str:
-        """Why nothing is done, where the tree does not look as if it was there."""
+        """Why nothing is done, where the tree, or the folder of copies, does not look as if it was there."""
         if self._words.gone:
             return ""
         if empty and not before and not self._failed and not self._table.count_deleted():
@@ -147,6 +147,8 @@ class Run:
             return f"{gone} of {before} faxes are gone from {shown(self._job.tree)}"
         if self._is_moved() and (gone + self._changed) * _TENTH > before:
             return f"{gone + self._changed} of {before} faxes are gone or others below {shown(self._job.tree)}"
+        if self._target is not None and self._table.knows_copies() and self._target.is_empty():
+            return f"no copy stands in {shown(self._job.target)}, which is empty"
         return ""
 
     def _is_moved(self) -> bool:

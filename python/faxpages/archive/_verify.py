@@ -29,8 +29,10 @@ def verify(words: argparse.Namespace) -> int:
         kept = table.job() or {}
         if kept.get("job") != "convert":
             raise TableError(f"{words.table} is of no conversion, and knows of no copies")
-        files.root_of(target)
+        root = files.root_of(target)
         due = table.begin_verification()
+        if due and root.is_empty():
+            raise TableError(f"no copy stands in {shown(target)}, which is empty; nothing is changed")
         table.commit_all()
         _do_all(words, Job(b"", target, str(kept["to"]), verify=True), table, due)
         if words.gone:

@@ -7,6 +7,7 @@ variables of Python name. It ends by itself when the process that started it has
 from __future__ import annotations
 
 import os
+import pickle
 import select
 import signal
 import subprocess
@@ -17,6 +18,7 @@ from multiprocessing.connection import Connection, Pipe
 from typing import Any, List, Optional, Tuple
 
 from ._fax import Done, Found, Job, NoWorker, Waiting, not_read
+from ._files import Seen, Stood
 
 # The seconds in which a worker has to start, also on a machine that has much else to do, since one that fails ends at
 # once; and in which one that is killed has to end.
@@ -78,15 +80,14 @@ class Worker:
         pipe = self._started()
         got: List[Done] = []
         try:
-            # Plain tuples go through a pipe in half the time.
-            pipe.send(([tuple(fax) for fax in batch], until - time.monotonic()))
+            _put(pipe, ([tuple(fax) for fax in batch], until - time.monotonic()))
             for _ in batch:
                 if not self._answers(pipe):
                     return got, True
-                done = pipe.recv()
+                done = _take(pipe)
                 if done is None:
                     return got, False
-                got.append(Done(Found._make(done[0]), *done[1:]))
+                got.append(unpacked(done))
         except (EOFError, OSError):
             return got, True
         return got, False
@@ -125,8 +126,8 @@ class Worker:
                 pass_fds=[its.fileno()])
         self._pipe = pipe
         try:
-            pipe.send(self._job)
-            if pipe.poll(_START) and pipe.recv():
+            _put(pipe, self._job)
+            if pipe.poll(_START) and _take(pipe):
                 return pipe
         except (EOFError, OSError):
             pass
@@ -149,6 +150,29 @@ class Worker:
         return late
 
 
+def packed(done: Done) -> Tuple[Any, ...]:
+    """What came of a fax as plain tuples, which are pickled in a third of the time."""
+    return tuple(tuple(it) if isinstance(it, tuple) else it for it in done)
+
+
+def unpacked(told: Tuple[Any, ...]) -> Done:
+    """What came of a fax, of plain tuples."""
+    found, copy, fields, seen, copy_seen, fields_seen, digest = told
+    return Done(Found._make(found), copy and Stood._make(copy), fields and Stood._make(fields),
+                seen and Seen._make(seen), copy_seen and Seen._make(copy_seen),
+                fields_seen and Seen._make(fields_seen), digest)
+
+
+def _put(pipe: Connection, value: Any) -> None:
+    """Sends a value by pickle's own code: that of multiprocessing knows more, and takes three times as long."""
+    pipe.send_bytes(pickle.dumps(value, pickle.HIGHEST_PROTOCOL))
+
+
+def _take(pipe: Connection) -> Any:
+    """The next value that is sent."""
+    return pickle.loads(pipe.recv_bytes())
+
+
 def _closed(pipe: Connection) -> bool:
     """Whether the other end of a pipe is closed, so that the process has died by itself."""
     try:
@@ -167,18 +191,17 @@ def _end_with(pipe: Connection) -> None:
 
 def _serve(pipe: Connection) -> None:
     """Takes the job, and then faxes, until nobody asks any more."""
-    job: Job = pipe.recv()
-    pipe.send(True)
+    job: Job = _take(pipe)
+    _put(pipe, True)
     while True:
-        asked: Tuple[List[Tuple[Any, ...]], float] = pipe.recv()
+        asked: Tuple[List[Tuple[Any, ...]], float] = _take(pipe)
         batch, seconds = asked
         until = time.monotonic() + seconds
         for number, fax in enumerate(batch):
             if number and time.monotonic() > until:
-                pipe.send(None)
+                _put(pipe, None)
                 break
-            found, *rest = job.do(Waiting._make(fax))
-            pipe.send((tuple(found), *rest))
+            _put(pipe, packed(job.do(Waiting._make(fax))))
 
 
 def main(number: int) -> None:

@@ -11,8 +11,8 @@ from typing import TYPE_CHECKING, Dict, FrozenSet, List, Optional, Set, Tuple
 
 from tests.archive.drawn.contents import Verdict, digest
 from tests.archive.drawn.model import (
-    GOOD, NOT_READ, Fax, Job, Model, Original, Row, Stood, Words, about_to_go, deleted_in, has_turned, originals_of,
-    rows_of, see, status_of, where_in,
+    GOOD, NOT_READ, Fax, Job, Model, Original, Row, Stood, Words, about_to_go, deleted_in, has_turned, knows_copies,
+    originals_of, rows_of, see, status_of, where_in,
 )
 from tests.archive.drawn.playing import Ran, Trouble
 from tests.archive.drawn.world import Entry, World, folded, snapshot
@@ -45,6 +45,8 @@ class Before:
         self.originals = originals_of(table)
         self.deleted, self.about_to_go, self.where = deleted_in(table), about_to_go(table), where_in(table)
         self.seen = see(world, job, other_user)
+        # Whether TARGET looks as if it was not mounted.
+        self.unmounted = bool(job.to) and not self.target and knows_copies(table)
 
 
 class Comparison:
@@ -168,7 +170,7 @@ class Comparison:
                       for path, fax in faxes.items())
         if self._moved() and (gone + changed) * 10 > len(before.rows):
             return 3
-        return None
+        return 3 if before.unmounted else None
 
     def _moved(self) -> bool:
         """Whether the tree stood elsewhere when this table was used before."""

@@ -210,6 +210,11 @@ def about_to_go(table: str) -> Set[bytes]:
     return {path for (path,) in answers(table, "SELECT CAST(path AS BLOB) FROM deleted WHERE deleted = 0")}
 
 
+def knows_copies(table: str) -> bool:
+    """Whether a table knows copies of its own, be their faxes there or not."""
+    return any(answers(table, f"SELECT 1 FROM {rows} LIMIT 1") for rows in ("copies WHERE ours", "only_copies"))
+
+
 def where_in(table: str) -> Optional[bytes]:
     """Where a table says that its tree stands."""
     found = answers(table, "SELECT value FROM job WHERE name = 'where'")

@@ -192,7 +192,8 @@ class Episode:
     def words(self, job: Job) -> Words:
         rng = self.rng
         again = rng.choice([None] * 5 + ["unread", "faulty", "all"] + (["copies"] if job.to else []))
-        gone = rng.random() < 0.3
+        # Where TARGET goes it is empty then, and nothing is copied without it.
+        gone = rng.random() < (0.3 if self.kind != GOING else 0.7)
         if not job.to:
             return Words(again, gone, faults_ok=rng.random() < 0.1)
         delete = rng.random() < (0.3 if self.kind != GOING else 0.9)
@@ -216,14 +217,14 @@ class Episode:
 
     def _command(self, job: Job) -> None:
         """Gives check or convert, and compares."""
-        if self.kind == SECOND and self.rng.random() < 0.5:
+        if self.kind == SECOND and self.rng.random() < 0.5 and snapshot(self.world.target):
             self._two(job, self.rng.choice([job, *self.jobs]))
             return
         words = self.words(job)
         trouble = playing.drawn_trouble(self.rng)._replace(other_user=self.other_user)
         before = Before(self.world, job, self.other_user)
         often = 0.5 if words.delete or words.again == "copies" else 0.2
-        calm = not trouble.at and trouble.largest is None and self.kind in (PLAIN, SECOND, GOING)
+        calm = not (trouble.at or trouble.largest or before.unmounted) and self.kind in (PLAIN, SECOND, GOING)
         goes = {PLAIN: often / 4, GOING: 0.8}.get(self.kind, 0.0)
         if calm and job.to and goes and self.rng.random() < goes:
             trouble = self._target_goes(before, trouble)

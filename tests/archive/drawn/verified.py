@@ -59,6 +59,8 @@ class Verification:
         if self.trouble.at or self.trouble.largest is not None:
             self._note_looked(results)
             return
+        if not self.before.target and self._is_refused():
+            return
         for path, before in self.kept.looked.items():
             results.setdefault(path, set()).update(before)
         found = only_in(self.table)
@@ -69,6 +71,13 @@ class Verification:
                 del self.kept.sure[path]
             self.kept.perhaps &= set(found)
         self.kept.looked.clear()
+
+    def _is_refused(self) -> bool:
+        """Whether nothing is looked at, since TARGET is empty, as one that is not mounted; not where nothing is due."""
+        refused = self.ran.status == NOT_READ and "which is empty; nothing is changed" in self.ran.error
+        known = bool(self.kept.sure or self.kept.perhaps or self.kept.others)
+        self.claim(known if refused else set(self.kept.sure) <= set(self.kept.looked), f"an empty TARGET: {refused}")
+        return refused
 
     def _nothing_else(self) -> None:
         """Nothing but the table has changed, and of that no row of a fax."""
