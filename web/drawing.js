@@ -51,7 +51,7 @@ class Drawing {
                 use(due++, this.library.row(index).bytes);
             }
             if (told.count === 0) {
-                throw new Error(`rows end with status ${told.status}`);
+                throw Library.refusal(told.status);
             }
         }
         this.keep(page, to);

@@ -20,6 +20,9 @@ class Known {
         /** Pages of which all rows are found, though a fault says that the file was cut, and that fault.
          * @type {Map<number, string>} */
         this.cut = new Map();
+        /** Pages of which the receiver says that rows were bad: how many, if it says so, and whether they are left so.
+         * @type {Map<number, { bad: number | null, isLeft: boolean }>} */
+        this.received = new Map();
         /** @type {Map<number, { strip: number, kind: number, name: string }[]>} */
         this.notes = new Map();
         this.state = "waits";
@@ -33,7 +36,9 @@ class Known {
         /** @type {any} */
         this.told = null;
         this.isLong = false;
-        this.failure = "";
+        /** Why it cannot be read, or not any more.
+         * @type {Failed | null} */
+        this.broke = null;
     }
 }
 
@@ -154,14 +159,20 @@ class Fax extends Known {
     }
 
     /** @param {Failed} error */
-    fail({ kind, message }) {
-        if (kind === "changed" && !this.isBusy()) {
+    fail(error) {
+        if (error.kind === "changed" && !this.isBusy()) {
             this.read(true);
             return;
         }
-        this.failure = say(TEXTS.broken[/** @type {"ended"} */ (kind)] ?? TEXTS.broken.ended, message).trim();
+        this.broke = error;
         this.state = this.isBusy() ? "failed" : this.state;
         this.changed(this);
+    }
+
+    /** Why it cannot be read, in words; nothing where it can. */
+    get failure() {
+        const texts = /** @type {Record<string, string>} */ (TEXTS.broken);
+        return this.broke ? say(texts[this.broke.kind] ?? texts.ended, sayError(this.broke)) : "";
     }
 
     /** Asks the worker, which is started where there is none.
@@ -297,6 +308,12 @@ class Fax extends Known {
     }
 
     /** @param {any} data */
+    onReceived({ page, bad, isLeft }) {
+        this.received.set(page, { bad, isLeft });
+        this.changed(this);
+    }
+
+    /** @param {any} data */
     onWalking({ page, rows }) {
         this.page = page;
         this.rows = rows;
@@ -369,15 +386,17 @@ class Fax extends Known {
     look() {
         const isDamaged = this.refused.size > this.others || this.told?.isOpen || this.told?.rows === 0 ||
             (this.end && this.end.name !== "DirectoryLoop") || ["part", "most"].includes(this.worst);
-        return isDamaged || this.pages === 0 ? "damaged" : this.isWhole() ? "whole" : "slight";
+        return isDamaged || this.pages === 0 ? "damaged" : !this.isWhole() ? "slight"
+            : this.received.size > 0 ? "mended" : "whole";
     }
 
     /** What a page is like.
-     * @param {number} page @returns {"other" | "refused" | "whole" | "slight" | "part" | "most"} */
+     * @param {number} page @returns {"other" | "refused" | "whole" | "mended" | "slight" | "part" | "most"} */
     stateOf(page) {
         const refused = this.refused.get(page);
+        const level = Missing.level(this.lost.get(page)?.rows ?? 0, this.form(page)?.rows ?? 1);
         return refused ? (refused.kind ? "other" : "refused")
-            : Missing.level(this.lost.get(page)?.rows ?? 0, this.form(page)?.rows ?? 1);
+            : level === "whole" && this.received.has(page) ? "mended" : level;
     }
 
     /** The same in words.

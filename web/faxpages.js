@@ -311,9 +311,12 @@ class App {
         }
     }
 
-    /** Shows what has changed before the next picture is painted; or soon, where none is painted. */
+    /** Shows what has changed before the next picture is painted; or soon, where none is painted. The first page of a
+     * file is shown at once. */
     changed() {
-        if (!this.isDue) {
+        if (this.fax?.form(this.page) && this.view.fax === this.fax && !this.view.form) {
+            this.render();
+        } else if (!this.isDue) {
             this.isDue = true;
             setTimeout(() => {
                 this.isDue = false;
@@ -337,8 +340,9 @@ class App {
             }
             this.renderPage(fax);
         }
-        this.thumbs.show(fax, this.page, this.picked(fax));
+        // The page is asked for before those in small.
         this.view.show(fax, this.page);
+        this.thumbs.show(fax, this.page, this.picked(fax));
         this.renderZoom();
         this.makings.show(fax);
         this.settle(fax);
@@ -540,14 +544,15 @@ class App {
             await navigator.clipboard.write([new ClipboardItem({ "image/png": picture })]);
             this.notify(say(texts.copied, sayPage(page)));
         } catch (error) {
-            this.notify(say(texts.failed, sayPage(page), /** @type {Error} */ (error).message));
+            const isRefused = error instanceof DOMException;
+            this.notify(say(texts.failed, sayPage(page), isRefused ? TEXTS.errors.clipboard : sayError(error)));
         }
     }
 
     /** Shows the page on the whole screen, and back. */
     fill() {
         (document.fullscreenElement ? document.exitFullscreen() : the("view-part").requestFullscreen()).catch(
-            (/** @type {Error} */ error) => this.notify(error.message));
+            () => this.notify(TEXTS.errors.fullScreen));
     }
 
     /** Goes to the next file that is damaged, and from the last to the first. */
@@ -569,10 +574,7 @@ class App {
             return;
         }
         const { pages } = this.chosen(fax);
-        if (pages && pages.length > Printing.MOST) {
-            this.printing.tell(say(TEXTS.printing.tooMany, Printing.MOST));
-            this.announce(say(TEXTS.printing.tooMany, Printing.MOST));
-        } else if (pages) {
+        if (pages) {
             this.printing.print(fax, pages);
         }
     }
@@ -600,9 +602,12 @@ class App {
         the("zoom").value = `${this.view.percent}%`;
     }
 
-    /** Says all in the language that was chosen. */
+    /** Says all in the language that was chosen. What was said of the past, in another one, goes. */
     retell() {
         App.fillTexts();
+        for (const id of ["refused", "bare-said", "all-said", "printing", "seen", "said"]) {
+            the(id).textContent = "";
+        }
         this.findings.forget();
         this.makings.forget();
         this.render();

@@ -20,7 +20,7 @@ class Files {
     }
 
     /** What a file looks like in the list.
-     * @param {Fax} fax @returns {"failed" | "busy" | "other" | "whole" | "slight" | "damaged"} */
+     * @param {Fax} fax @returns {"failed" | "busy" | "other" | "whole" | "mended" | "slight" | "damaged"} */
     static lookOf(fax) {
         return fax.failure ? "failed" : fax.isBusy() ? "busy" : fax.otherKind() ? "other" : fax.look();
     }
@@ -56,9 +56,10 @@ class Files {
         for (const look of faxes.map(Files.lookOf)) {
             counts.set(look, (counts.get(look) ?? 0) + 1);
         }
-        const looks = /** @type {Record<string, string>} */ (TEXTS.looks);
-        const parts = Object.keys(looks).filter((look) => counts.has(look)).map(
-            (look) => `${counts.get(look)} ${looks[look]}`);
+        const parts = Object.entries(TEXTS.counted).flatMap(([look, text]) => {
+            const count = counts.get(look);
+            return count ? [say(text, count)] : [];
+        });
         return `${sayCount(faxes.length, "file")}: ${parts.join("; ")}`;
     }
 

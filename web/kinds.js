@@ -15,7 +15,7 @@ class Kinds {
     ];
     /** @type {Record<number, string>} */
     static COMPRESSIONS = {
-        1: "no compression", 5: "LZW", 6: "JPEG", 7: "JPEG", 8: "Deflate", 32773: "PackBits", 32946: "Deflate",
+        5: "LZW", 6: "JPEG", 7: "JPEG", 8: "Deflate", 32773: "PackBits", 32946: "Deflate",
         34661: "JBIG", 34712: "JPEG 2000", 34925: "LZMA", 50000: "Zstandard", 50001: "WebP",
     };
     /** How mails begin. */
@@ -75,6 +75,9 @@ class Kinds {
             return null;
         }
         const value = this.valueOf(fault.page, fault.tag);
+        if (fault.tag === Kinds.COMPRESSION && value === 1) {
+            return { name: "uncompressed", value: "" };
+        }
         if (fault.tag === Kinds.COMPRESSION) {
             return { name: "compression", value: Kinds.COMPRESSIONS[value] ?? String(value) };
         }

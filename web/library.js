@@ -215,7 +215,7 @@ class Library {
         const status = this.calls.faxpages_salvage(this.file, this.length, page,
             this.room("form", 4 * Library.FORM_NUMBERS), raster, size, form.stride, lost, most, this.told);
         if (status !== Library.DONE) {
-            throw new Error(`what is left of page ${page + 1} is told with status ${status}`);
+            throw Library.refusal(status);
         }
         const count = this.numbers(this.told, 2)[1];
         return new Left(this, form, raster, this.numbers(lost, 3 * count).slice());
@@ -271,7 +271,19 @@ class Library {
      * @param {number} status */
     static refusal(status) {
         return status === Library.MEMORY ? new RangeError("memory was refused")
-            : new Error(`the library answered with status ${status}`);
+            : Library.trouble("status", [String(status)], new Error(`the library answered with status ${status}`));
+    }
+
+    /** An error that the page says in its own words: by one of TEXTS.errors, and what is put into that.
+     * @param {string} text @param {string[]} values @param {Error} [error] */
+    static trouble(text, values, error = new Error([text, ...values].join(" "))) {
+        return Object.assign(error, { text, values });
+    }
+
+    /** The same of a page.
+     * @param {string} text @param {number} page */
+    static troubleOf(text, page) {
+        return Library.trouble(text, [String(page + 1)]);
     }
 }
 
@@ -317,7 +329,7 @@ class Writing {
             throw Library.refusal(status);
         }
         if (status === Library.TOO_LARGE || this.file.size >= Library.MOST_BYTES) {
-            throw new RangeError("the file would be too large");
+            throw Library.trouble("fileTooLarge", [], new RangeError("the file would be too large"));
         }
         const size = Math.min(Library.MOST_BYTES, 2 * this.file.size + more);
         const at = this.library.take(size);

@@ -6,12 +6,16 @@ class Stopped extends Error {}
 /** Why a call has no answer: its file was closed. */
 class Closed extends Error {}
 
-/** Why a call has no answer: the file cannot be taken in, or the worker broke down. The kind is one of TEXTS.broken. */
+/** Why a call has no answer: the file cannot be taken in, the worker broke down, or what was asked for cannot be done.
+ * The kind is one of TEXTS.broken, or the text is one of TEXTS.errors. The message is what the browser says, which the
+ * page does not show, since it is in no language that was chosen. */
 class Failed extends Error {
-    /** @param {string} message @param {string} kind */
-    constructor(message, kind) {
+    /** @param {string} message @param {string} kind @param {string} [text] @param {string[]} [values] put into it */
+    constructor(message, kind, text = "", values = []) {
         super(message);
         this.kind = kind;
+        this.text = text;
+        this.values = values;
     }
 }
 
@@ -106,7 +110,7 @@ class Life {
             if (data.error === undefined) {
                 call?.resolve(data.result);
             } else {
-                call?.reject(new Failed(data.error, data.kind));
+                call?.reject(new Failed(data.error, data.kind, data.text, data.values));
             }
             if (this.isIdle()) {
                 this.owner.rests();
@@ -135,6 +139,8 @@ class Life {
 
     /** @param {Failed} error */
     fail(error) {
+        // In the browser's own words, for who looks for the reason.
+        console.warn(error.message);
         this.leave(error.kind, error);
         this.owner.failed(error);
     }

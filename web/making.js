@@ -10,7 +10,8 @@ class Making {
         /** @type {"works" | "ready" | "failed"} */
         this.state = "works";
         this.percent = 0;
-        this.said = say(TEXTS.saving.works, sayName(name), 0);
+        /** What is said of it, in the language of the moment. */
+        this.saying = () => say(TEXTS.saving.works, sayName(this.name), this.percent);
         /** @type {Blob | null} */
         this.blob = null;
         this.place = "";
@@ -19,23 +20,26 @@ class Making {
     /** @param {number} done @param {number} all */
     tell(done, all) {
         this.percent = Math.floor((100 * done) / all);
-        this.said = say(TEXTS.saving.works, sayName(this.name), this.percent);
         this.changed();
     }
 
-    /** @param {Blob} blob @param {string} said */
-    end(blob, said) {
+    get said() {
+        return this.saying();
+    }
+
+    /** @param {Blob} blob @param {() => string} saying */
+    end(blob, saying) {
         this.state = "ready";
         this.blob = blob;
-        this.said = said;
+        this.saying = saying;
         this.place = URL.createObjectURL(blob);
         this.changed();
     }
 
-    /** @param {string} said */
-    fail(said) {
+    /** @param {() => string} saying */
+    fail(saying) {
         this.state = "failed";
-        this.said = said;
+        this.saying = saying;
         this.changed();
     }
 
@@ -80,7 +84,7 @@ class Makings {
         const making = new Making(Makings.nameOf(fax, kind, page, chosen), this.changed);
         fax.setMaking(making);
         if (kind !== "text" && (pages.length === 0 || !fax.form(pages[0]))) {
-            making.fail(TEXTS.saving.nothing);
+            making.fail(() => TEXTS.saving.nothing);
             return;
         }
         this.working = fax;
@@ -92,13 +96,13 @@ class Makings {
             const blob = kind === "text" ? await fax.textBlob() : await fax.ask("save", words, tell);
             // What is made of an earlier reading, or of a file that was closed, is nobody's.
             if (fax.making === making) {
-                making.end(blob, Makings.saidOf(fax, kind, sayName(making.name), pages, chosen));
+                making.end(blob, () => Makings.saidOf(fax, kind, sayName(making.name), pages, chosen));
                 Makings.link(making, "").click();
             }
         } catch (error) {
             const isStopped = error instanceof Stopped || error instanceof Closed;
-            making.fail(isStopped ? say(TEXTS.saving.cancelled, sayName(making.name))
-                : say(TEXTS.saving.failed, sayName(making.name), /** @type {Error} */ (error).message));
+            making.fail(() => isStopped ? say(TEXTS.saving.cancelled, sayName(making.name))
+                : say(TEXTS.saving.failed, sayName(making.name), sayError(error)));
         } finally {
             this.working = null;
             this.changed();

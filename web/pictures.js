@@ -107,7 +107,7 @@ class Png {
         const form = sent && turns % 2 ? Turning.formAcross(sent) : sent;
         const [across, down] = form?.repeats ?? [1, 1];
         if (!sent || !form || form.width * across * form.rows * down > Png.MOST_PELS) {
-            throw new Error(`page ${page + 1} is too large for a picture`);
+            throw Library.troubleOf("noPicture", page);
         }
         const bits = this.drawing.salvaging.isLossy(page, sent) ? 2 : 1;
         const turned = turns ? new Turning(this.drawing, page, sent, turns) : null;
@@ -186,12 +186,12 @@ class Png {
         let at = 0;
         for await (const piece of lines) {
             if (!Saving.isEqual(piece, again.subarray(at, at + piece.length))) {
-                throw new Error(`page ${page + 1} was not written as it is`);
+                throw Library.troubleOf("notWritten", page);
             }
             at += piece.length;
         }
         if (at !== again.length) {
-            throw new Error(`page ${page + 1} was not written as it is`);
+            throw Library.troubleOf("notWritten", page);
         }
     }
 

@@ -2,11 +2,19 @@
 
 /**
  * Prints pages, each on a sheet of its own: as large as it was sent, or smaller where the sheet is, and turned as the
- * sheet lies. Their pictures are there before the browser is asked to print.
+ * sheet lies. Where the browser prints a PDF out of a frame, as Chromium does for a page of a server, a PDF is printed:
+ * its pages have their own sizes, and the browser fits them into what the printer reaches of a sheet. Elsewhere pages
+ * are printed as pictures, which are there before the browser is asked to print.
  */
 class Printing {
-    /** So many pages are printed at once: their pictures are in memory. */
+    /** So many pages are printed at once as pictures, which are in memory. */
     static MOST = 300;
+    /** What the document of a frame is that shows a PDF. */
+    static KIND = "application/pdf";
+    /** A PDF of one empty page, and how many milliseconds it may take to be shown. */
+    static EMPTY = "%PDF-1.4\n1 0 obj<</Type/Catalog/Pages 2 0 R>>endobj 2 0 obj<</Type/Pages/Kids[3 0 R]/Count 1>>" +
+        "endobj 3 0 obj<</Type/Page/Parent 2 0 R/MediaBox[0 0 9 9]>>endobj trailer<</Root 1 0 R>>";
+    static SOON = 2000;
 
     /** @param {View} view @param {{ box: HTMLElement, said: HTMLElement, cancel: HTMLElement }} parts
      * @param {(text: string) => void} announce */
@@ -19,6 +27,12 @@ class Printing {
         /** The fax of which pages are prepared now.
          * @type {Fax | null} */
         this.working = null;
+        /** What shows the PDF that is printed.
+         * @type {HTMLIFrameElement | null} */
+        this.frame = null;
+        /** Whether the browser prints a PDF out of a frame, once that was asked.
+         * @type {Promise<boolean> | null} */
+        this.isByPdf = null;
         cancel.addEventListener("click", () => this.working?.life.end());
         addEventListener("beforeprint", () => this.showInSight());
         addEventListener("afterprint", () => this.clear());
@@ -29,7 +43,7 @@ class Printing {
         this.said.textContent = text;
     }
 
-    /** Has the browser print pages of a fax, once the pictures of all are there.
+    /** Has the browser print pages of a fax, once they are prepared.
      * @param {Fax} fax @param {number[]} pages */
     async print(fax, pages) {
         const texts = TEXTS.printing;
@@ -40,22 +54,80 @@ class Printing {
         this.working = fax;
         this.cancelButton.hidden = false;
         try {
-            for (const [at, page] of pages.entries()) {
-                this.tell(say(texts.works, at + 1, pages.length));
-                const words = { kind: "png", pages: [page], coding: 0, turns: [] };
-                this.box.append(await Printing.sheet(fax, page, await fax.ask("save", words)));
+            this.isByPdf ??= this.canPrintPdf();
+            const isByPdf = await this.isByPdf;
+            if (!isByPdf && pages.length > Printing.MOST) {
+                this.tell(say(texts.tooMany, Printing.MOST));
+                this.announce(say(texts.tooMany, Printing.MOST));
+                return;
             }
+            await (isByPdf ? this.preparePdf(fax, pages) : this.preparePictures(fax, pages));
             this.tell("");
             this.announce(say(texts.ready, sayCount(pages.length, "page")));
-            print();
+            this.ask();
         } catch (error) {
             const isStopped = error instanceof Stopped || error instanceof Closed;
-            this.tell(isStopped ? texts.cancelled : say(texts.failed, /** @type {Error} */ (error).message));
+            this.tell(isStopped ? texts.cancelled : say(texts.failed, sayError(error)));
             this.announce(this.said.textContent ?? "");
             this.clear();
         } finally {
             this.working = null;
             this.cancelButton.hidden = true;
+        }
+    }
+
+    /** @param {Fax} fax @param {number[]} pages */
+    async preparePictures(fax, pages) {
+        for (const [at, page] of pages.entries()) {
+            this.tell(say(TEXTS.printing.works, at + 1, pages.length));
+            const words = { kind: "png", pages: [page], coding: 0, turns: [] };
+            this.box.append(await Printing.sheet(fax, page, await fax.ask("save", words)));
+        }
+    }
+
+    /** @param {Fax} fax @param {number[]} pages */
+    async preparePdf(fax, pages) {
+        const words = { kind: "pdf", pages, coding: 0, turns: pages.map((page) => fax.turnsOf(page)) };
+        const tell = (/** @type {number} */ done, /** @type {number} */ all) =>
+            this.tell(say(TEXTS.printing.works, Math.min(done + 1, all), all));
+        this.tell(say(TEXTS.printing.works, 1, pages.length));
+        await this.show(await fax.ask("save", words, tell));
+    }
+
+    /** Asks the browser to print what was prepared. */
+    ask() {
+        (this.frame?.contentWindow ?? window).print();
+    }
+
+    /** Shows a PDF in a frame that nobody sees, in place of another one.
+     * @param {Blob} pdf */
+    async show(pdf) {
+        this.clear();
+        const frame = document.createElement("iframe");
+        frame.className = "printed-pdf";
+        frame.tabIndex = -1;
+        frame.setAttribute("aria-hidden", "true");
+        frame.src = URL.createObjectURL(new Blob([pdf], { type: Printing.KIND }));
+        const isThere = new Promise((resolve) => frame.addEventListener("load", resolve));
+        this.frame = frame;
+        document.body.append(frame);
+        await isThere;
+    }
+
+    /** Whether the browser shows a PDF in a frame, and may be asked to print it: not for a page of the disk, nor where
+     * a server's rules let no frame in. */
+    async canPrintPdf() {
+        if (!navigator.pdfViewerEnabled || location.protocol === "file:") {
+            return false;
+        }
+        try {
+            await Promise.race([this.show(new Blob([Printing.EMPTY])),
+                new Promise((resolve) => setTimeout(resolve, Printing.SOON))]);
+            return this.frame?.contentDocument?.contentType === Printing.KIND;
+        } catch {
+            return false;
+        } finally {
+            this.clear();
         }
     }
 
@@ -105,8 +177,13 @@ class Printing {
         }
     }
 
-    /** Drops the pictures. */
+    /** Drops what was prepared. */
     clear() {
         this.box.replaceChildren();
+        if (this.frame) {
+            URL.revokeObjectURL(this.frame.src);
+            this.frame.remove();
+            this.frame = null;
+        }
     }
 }

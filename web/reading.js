@@ -7,6 +7,12 @@
 class Reading {
     /** How long a slice is to take, in milliseconds. */
     static SLICE = 20;
+    /** BadFaxLines and CleanFaxData, and what the second one is where bad rows stand in the data. */
+    static BAD_ROWS = [326, 327];
+    static LEFT = 2;
+    /** Of so many pages these are looked for at a time, and for so many milliseconds at most. */
+    static PAGES = 256;
+    static LONG = 5000;
 
     /**
      * @param {Library} library
@@ -61,6 +67,24 @@ class Reading {
                 throw Library.refusal(told.status);
             }
             await this.pause();
+        }
+    }
+
+    /** Tells what the receivers of pages counted of bad rows, in the fields that TIFF-F has for it. The library looks
+     * for a page from the first one on: where that takes long, as for very many pages, the last ones are left out.
+     * @param {number} pages */
+    async received(pages) {
+        const began = performance.now();
+        for (let page = 0; page < pages && performance.now() - began < Reading.LONG; page++) {
+            if (this.kinds.has(page, Reading.BAD_ROWS)) {
+                const { status, found: [bad, clean] } = this.library.received(page);
+                if (status === Library.DONE && (bad || clean)) {
+                    this.send({ event: "received", page, bad, isLeft: clean === Reading.LEFT });
+                }
+            }
+            if (page % Reading.PAGES === Reading.PAGES - 1) {
+                await this.pause();
+            }
         }
     }
 

@@ -93,7 +93,7 @@ class Salvaging {
                 return told.fault;
             }
             if (told.count === 0) {
-                throw new Error(`rows end with status ${told.status}`);
+                throw Library.refusal(told.status);
             }
         }
         this.faults.set(page, null);

@@ -65,7 +65,7 @@ class Saving {
     formOf(page) {
         const form = this.library.form(page);
         if (!form || form.stride * form.rows > Saving.MOST_RASTER) {
-            throw new Error(`page ${page + 1} is too large to be saved`);
+            throw Library.troubleOf("tooLarge", page);
         }
         return form;
     }
@@ -81,7 +81,7 @@ class Saving {
                 this.made.bytes(at + due * form.stride, form.stride).set(rows.bytes(index));
             }
             if (count === 0) {
-                throw new Error(`page ${page + 1} cannot be read wholly`);
+                throw Library.troubleOf("notWhole", page);
             }
         }
         return at;
@@ -128,14 +128,14 @@ class Saving {
             for (let due = 0; due < form.rows; await this.pause()) {
                 const again = this.made.readRows(made, Math.min(Library.ROWS, form.rows - due));
                 if (again.count === 0 || !this.isRaster(again.count, number, due, at, form.stride)) {
-                    throw new Error(`page ${page + 1} was not written as it is`);
+                    throw Library.troubleOf("notWritten", page);
                 }
                 due += again.count;
             }
             this.tell(pages.length + number + 1, 2 * pages.length);
         }
         if (this.made.readRows(made, 1).status !== Library.END) {
-            throw new Error("more was written than there is");
+            throw Library.trouble("more", []);
         }
     }
 
@@ -160,7 +160,7 @@ class Saving {
             const count = rows.next(form.rows - due);
             const again = this.made.readRows(made, count);
             if (count === 0 || again.count !== count || !this.isSame(rows, count, number, due)) {
-                throw new Error(`page ${page + 1} was not written as it is`);
+                throw Library.troubleOf("notWritten", page);
             }
             due += count;
         }
@@ -227,7 +227,7 @@ class Saving {
         this.made.bytes(this.made.takeFile(image.size), image.size).set(new Uint8Array(await image.arrayBuffer()));
         const converted = this.made.convert(Library.MMR);
         if (converted.status !== Library.DONE) {
-            throw new Error(`page ${page + 1} was not written as it is`);
+            throw Library.troubleOf("notWritten", page);
         }
         const { file, length } = this.made;
         [this.made.file, this.made.length] = [converted.at, converted.length];
@@ -277,7 +277,7 @@ class Saving {
     async coded(page, form, raster) {
         const strip = this.made.codeStrip(form, raster);
         if (strip.status !== Library.DONE) {
-            throw new Error(`page ${page + 1} is not coded`);
+            throw Library.troubleOf("notCoded", page);
         }
         const data = new Blob([this.made.bytes(strip.at, strip.length)]);
         await this.compareStrip(data, page, form, raster);
@@ -295,7 +295,7 @@ class Saving {
         const numbers = [form.width, form.rows, Library.MMR, 1, 0];
         const told = this.made.readStrip(strip, data.size, numbers, cursor, again, size, form.stride);
         if (told.count !== form.rows || !Saving.isEqual(this.made.bytes(raster, size), this.made.bytes(again, size))) {
-            throw new Error(`page ${page + 1} was not written as it is`);
+            throw Library.troubleOf("notWritten", page);
         }
     }
 }

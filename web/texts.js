@@ -40,6 +40,7 @@ const ENGLISH = {
         filterLook: "Files of this kind",
         allFiles: "all",
         wholeFiles: "whole",
+        mendedFiles: "mended by the receiver",
         slightFiles: "readable, rows are missing",
         damagedFiles: "much is missing",
         otherFiles: "no fax",
@@ -204,6 +205,7 @@ const ENGLISH = {
         bigTiff: ["a BigTIFF file", "libtiff's tiffcp makes a TIFF file of it, or a picture viewer opens it."],
         tiles: ["a picture in tiles", "libtiff's tiffcp makes strips of it, or a picture viewer opens it."],
         compression: ["a picture in TIFF with another compression ({0})", "A picture viewer opens it."],
+        uncompressed: ["a picture in TIFF without compression", "A picture viewer opens it."],
         bits: ["a grey or coloured picture in TIFF", "A picture viewer opens it."],
         colour: ["a coloured picture in TIFF", "A picture viewer opens it."],
         mode: ["a fax in uncompressed mode", "Ask for it without that mode."],
@@ -221,14 +223,32 @@ const ENGLISH = {
         waits: "Waits for other files.",
         opens: "Is being opened.",
     },
+    /** Why something was not done. */
+    errors: {
+        gone: "the file is gone from its place, or was changed there",
+        changed: "the file was changed on the disk",
+        memory: "the browser has no memory left for it",
+        status: "the library answered with status {0}",
+        tooLarge: "page {0} is too large to be saved",
+        fileTooLarge: "the file would be too large",
+        notWhole: "page {0} cannot be read wholly",
+        notWritten: "page {0} was not written as it is",
+        more: "more was written than there is",
+        notCoded: "page {0} is not coded",
+        noPicture: "page {0} is too large for a picture",
+        noTurning: "page {0} is too large to be turned",
+        clipboard: "the browser does not let it into the clipboard",
+        fullScreen: "The browser does not fill the screen with it.",
+        other: "the browser does not say why",
+    },
     /** Why a file that was opened is not read, or not any more. */
     broken: {
         gone: "the file is gone from its place, or was changed there: open it again.",
         changed: "the file was changed on the disk: open it again once it is whole.",
         memory: "the browser has no memory left for it: close other files, and open it again.",
         policy: "the rules of the server that this page is from (Content-Security-Policy) do not let it work. " +
-            "docs/INSTALL.md says which rules do. {0}",
-        ended: "what reads it broke down: {0}",
+            "docs/INSTALL.md says which rules do.",
+        ended: "what reads it broke down: {0}.",
         later: "It cannot be shown any more: {0} What was read of it before:",
         readAgain: "The file was changed on the disk, and was read again.",
     },
@@ -237,6 +257,14 @@ const ENGLISH = {
         reads: "Reading page {0} of {1}: {2} rows so far.",
         left: "You stopped the reading. Of {1} pages, those before page {0} were read.",
         whole: "This fax is whole: {0}, {1}.",
+        allThere: "All rows are there: {0}, {1}.",
+        /** Of one page, with the number of rows and without, and of many pages. */
+        mended: ["The receiver mended {0} of page {1}.",
+            "The receiver mended rows of page {1}, but does not say how many.",
+            "The receiver mended {0} on {1} pages."],
+        receivedBad: ["The receiver left {0} of page {1} that are bad.",
+            "The receiver left rows of page {1} that are bad, but does not say how many.",
+            "The receiver left {0} on {1} pages that are bad."],
         readable: "Readable. {0} of {1} rows {2} missing{3}.",
         partly: "Readable in part. {0} of {1} rows {2} missing{3}.",
         elsewhere: "Of the other pages {0} of {1} rows {2} missing.",
@@ -302,6 +330,7 @@ const ENGLISH = {
         resolution: "{0} by {1} to the {2}",
         noResolution: "no resolution",
         whole: "whole",
+        mended: "mended by the receiver",
         slight: "{0} missing",
         part: "{0} missing",
         most: "most is missing",
@@ -345,12 +374,17 @@ const ENGLISH = {
     /** What a file of the list is like, for who hears it. */
     looks: {
         failed: "cannot be read any more", busy: "is being read", other: "no fax", whole: "whole",
-        slight: "readable, rows are missing", damaged: "much is missing",
+        mended: "mended by the receiver", slight: "readable, rows are missing", damaged: "much is missing",
+    },
+    /** How many files are like that. */
+    counted: {
+        failed: "{0} cannot be read any more", busy: "{0} being read", other: "{0} no fax", whole: "{0} whole",
+        mended: "{0} mended by the receiver", slight: "{0} readable with missing rows", damaged: "{0} with much missing",
     },
     announce: { page: "Page {0}, {1}.", closed: "Closed {0}.", opened: "Opened {0}.",
         noneDamaged: "Nothing is missing of any file.",
         noFolder: "The browser hands out no folder that is dropped here: choose it by Open a folder…" },
-    copying: { copied: "Page {0} was copied as a picture.", failed: "Page {0} was not copied: {1}" },
+    copying: { copied: "Page {0} was copied as a picture.", failed: "Page {0} was not copied: {1}." },
 };
 
 /** The languages that there are, by their codes.
@@ -406,6 +440,13 @@ function isKnownNote(name) {
 function sayOfNote(name) {
     const notes = /** @type {Record<string, string[]>} */ (TEXTS.notes);
     return notes[name] ?? TEXTS.later.note;
+}
+
+/** Why something was not done, which is an error of a call, or of the browser.
+ * @param {any} error @returns {string} */
+function sayError({ text, values = [], kind }) {
+    const errors = /** @type {Record<string, string>} */ (TEXTS.errors);
+    return say(errors[text] ?? errors[kind] ?? errors.other, ...values);
 }
 
 /** What something is that is no fax, and what reads it.

@@ -14,7 +14,7 @@ class Turning {
     constructor(drawing, page, form, turns) {
         const { width, rows } = form;
         if (width * rows > Turning.MOST_PELS) {
-            throw new Error(`page ${page + 1} is too large to be turned`);
+            throw Library.troubleOf("noTurning", page);
         }
         this.form = turns % 2 ? Turning.formAcross(form) : form;
         this.pels = new Uint8Array(width * rows);

@@ -37,8 +37,8 @@ class Verdict {
         const parts = [told, ...(fax.told?.isOpen ? [] : this.missing()), this.refused(), this.others(), this.chain()];
         const said = parts.filter(Boolean).join(" ");
         const whole = said ? "" : say(
-            texts.whole, sayCount(fax.pages, "page"), sayCount(fax.rows, "row"));
-        return [whole || said, fax.cut.size ? texts.cut : ""].filter(Boolean).join(" ");
+            fax.received.size ? texts.allThere : texts.whole, sayCount(fax.pages, "page"), sayCount(fax.rows, "row"));
+        return [whole || said, ...this.received(), fax.cut.size ? texts.cut : ""].filter(Boolean).join(" ");
     }
 
     /** What is said of a file that was no TIFF file. */
@@ -83,6 +83,22 @@ class Verdict {
         return pages.length > Verdict.MOST_NAMED
             ? say(texts.mostOfMany, pages.length, lost, rows, sayPage(pages[0]))
             : say(texts.mostOfPages, new Intl.ListFormat(TEXTS.locale).format(pages.map(sayPage)), lost, rows);
+    }
+
+    /** What is said of rows that the receiver counted as bad: it mended them, or left them. Where those of a page are
+     * missing here too, that is said already.
+     * @returns {string[]} */
+    received() {
+        const { fax, texts } = this;
+        const all = [...fax.received].filter(([page, { isLeft }]) => !isLeft || !fax.lost.has(page));
+        return [false, true].map((left) => {
+            const pages = all.filter(([, { isLeft }]) => isLeft === left);
+            const rows = pages.reduce((sum, [, { bad }]) => sum + (bad ?? 0), 0);
+            const [ofPage, some, ofPages] = left ? texts.receivedBad : texts.mended;
+            const [first] = pages;
+            return !first ? "" : pages.length > 1 ? say(ofPages, sayCount(rows, "row"), pages.length)
+                : say(rows > 0 ? ofPage : some, sayCount(rows, "row"), sayPage(first[0]));
+        });
     }
 
     /** What is said of pages that are refused, and why the first of them is. */

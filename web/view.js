@@ -141,7 +141,7 @@ class View {
         this.scrolled = -View.REST;
         this.timer = 0;
         this.hasMarks = true;
-        /** Whether something of the fax was drawn: what stands in for other pages is not drawn before. */
+        /** Whether something of the fax was drawn. */
         this.hasDrawn = false;
         /** How much room pages have, across and down. */
         this.room = [50, 50];
@@ -151,7 +151,7 @@ class View {
             this.follow(isByHand);
             this.plan();
         });
-        new ResizeObserver(() => this.lay()).observe(view);
+        new ResizeObserver(() => this.resized()).observe(view);
         smalls.changed = (page) => this.standIn(page);
     }
 
@@ -180,7 +180,11 @@ class View {
         if (hasMoved || Boolean(before) !== Boolean(this.form ?? this.blanks.get(page))) {
             this.toTop();
         }
-        this.plan();
+        if (this.hasDrawn) {
+            this.plan();
+        } else {
+            this.fill();
+        }
     }
 
     clear() {
@@ -345,6 +349,15 @@ class View {
         this.setZoom(Math.max(0.01, Math.min(View.MOST_SCALE, (percent / 100) * this.paperScale)));
     }
 
+    /** The view has another size: a page that began at its top does so still. */
+    resized() {
+        const isAtTop = this.roll.pages > 0 && Math.abs(this.roll.top - this.roll.topOf(this.page) + View.GAP) <= 1;
+        this.lay();
+        if (isAtTop) {
+            this.roll.goTo(this.view.scrollLeft, this.roll.topOf(this.page) - View.GAP);
+        }
+    }
+
     /** Lays all pages out, and stays at the page that is looked at. */
     lay() {
         this.layAround(this.view.clientWidth / 2, this.view.clientHeight / 2);
@@ -398,6 +411,10 @@ class View {
         const [first, last] = this.range(0);
         const isInSight = (/** @type {Sheet} */ { page }) => page >= first && page <= last;
         const others = [...this.sheets.values()].filter((sheet) => sheet !== this.sheet);
+        if (!this.hasDrawn) {
+            // The page comes first, and then those in small.
+            this.sheet?.fill();
+        }
         this.fillAhead();
         const isMoving = this.hasDrawn && performance.now() - this.scrolled < View.REST;
         if (isMoving && this.lacks(first, last + View.NEXT)) {
@@ -444,7 +461,7 @@ class View {
     /** Has more pages be drawn in small, where they are not: first those that stand there, then the next ones. */
     fillAhead() {
         const { fax, page, smalls } = this;
-        if (!fax || !this.hasDrawn || smalls.isBusy()) {
+        if (!fax || smalls.isBusy()) {
             return;
         }
         const after = Array.from({ length: View.AFTER }, (_, at) => page + 1 + at);

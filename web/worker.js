@@ -21,6 +21,9 @@ class FaxWorker {
     static NOTES = 20000;
     /** Where reading all rows took longer, in milliseconds, notes are looked for only where that is asked for. */
     static LONG = 5000;
+    /** After a picture the next one is waited for so many milliseconds, and for many so long at a time. */
+    static NEXT = 12;
+    static MOMENT = 60;
 
     /** What kind of failure an error is, by its name.
      * @type {Record<string, string>} */
@@ -33,6 +36,8 @@ class FaxWorker {
         this.scope = scope;
         /** @type {(() => void)[]} */
         this.waiting = [];
+        /** When a picture was drawn last. */
+        this.pictured = -FaxWorker.MOMENT;
         const set = /** @type {Opened} */ ({});
         /** These are set by `open`. */
         this.module = set.module;
@@ -52,11 +57,23 @@ class FaxWorker {
         scope.onmessage = (/** @type {any} */ { data }) => this.answer(data);
     }
 
-    /** Lets other calls in. @returns {Promise<void>} */
-    pause = () => new Promise((/** @type {(value?: any) => void} */ resolve) => {
-        this.waiting.push(resolve);
-        this.channel.port2.postMessage(0);
-    });
+    /** Lets other calls in. Pictures come first: while some are asked for, what takes long waits for a moment.
+     * @returns {Promise<void>} */
+    pause = async () => {
+        const until = performance.now() + FaxWorker.MOMENT;
+        await this.turn();
+        while (performance.now() < Math.min(until, this.pictured + FaxWorker.NEXT)) {
+            await new Promise((resolve) => setTimeout(resolve, 1));
+        }
+    };
+
+    /** Lets those calls in that have come. @returns {Promise<void>} */
+    turn() {
+        return new Promise((/** @type {(value?: any) => void} */ resolve) => {
+            this.waiting.push(resolve);
+            this.channel.port2.postMessage(0);
+        });
+    }
 
     /** Does something step by step, and lets other calls in between.
      * @template T @param {Generator<void, T, void>} steps @returns {Promise<T>} */
@@ -77,11 +94,14 @@ class FaxWorker {
                 await this.ready;
             }
             const result = await this[/** @type {"open"} */ (asked.call)](asked);
+            if (["part", "small"].includes(asked.call)) {
+                this.pictured = performance.now();
+            }
             const pels = /** @type {any} */ (result)?.pels;
             this.send({ id: asked.id, result }, pels ? [pels.buffer] : []);
         } catch (error) {
-            const { message, name, kind = FaxWorker.KINDS[name] } = /** @type {any} */ (error);
-            this.send({ id: asked.id, error: String(message ?? error), kind: kind ?? "ended" });
+            const { message, name, kind = FaxWorker.KINDS[name], text, values } = /** @type {any} */ (error);
+            this.send({ id: asked.id, error: String(message ?? error), kind: kind ?? "ended", text, values });
         }
     }
 
@@ -190,8 +210,9 @@ class FaxWorker {
 
     async read() {
         const reading = new Reading(this.library, this.salvaging, this.send, this.pause);
-        await reading.list();
+        const pages = await reading.list();
         const took = await reading.walk();
+        await reading.received(pages);
         if (took < FaxWorker.LONG) {
             this.notes();
         } else {

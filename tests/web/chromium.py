@@ -23,6 +23,13 @@ WORDS = [
 class Chromium(Browser):
     """One Chromium with one page."""
 
+    WORDS = WORDS
+    # More of its environment.
+    environment: dict[str, str] = {}
+
+    def prepare(self, folder: str) -> None:
+        """Puts into the folder of its settings what it is to find there."""
+
     def __init__(self, size: tuple[int, int] = (1280, 900)) -> None:
         for left in (2, 1, 0):
             self._start(size)
@@ -40,15 +47,16 @@ class Chromium(Browser):
     def _start(self, size: tuple[int, int]) -> None:
         """Starts the browser, with a pipe to it and one from it."""
         self._folder = tempfile.mkdtemp()
+        self.prepare(self._folder)
         to_it, mine = os.pipe()
         mine_too, from_it = os.pipe()
         no_sandbox = ["--no-sandbox"] if os.getuid() == 0 else []
         with open(f"{self._folder}/said", "wb") as said:
             self._process = subprocess.Popen(
-                ["bash", "-c", f'exec "$@" 3<&{to_it} 4>&{from_it}', "bash", "chromium", *WORDS, *no_sandbox,
+                ["bash", "-c", f'exec "$@" 3<&{to_it} 4>&{from_it}', "bash", "chromium", *self.WORDS, *no_sandbox,
                  f"--user-data-dir={self._folder}", f"--window-size={size[0]},{size[1]}", "about:blank"],
                 pass_fds=(to_it, from_it), stdin=subprocess.DEVNULL, stdout=subprocess.DEVNULL, stderr=said,
-                start_new_session=True)
+                start_new_session=True, env=dict(os.environ, **self.environment))
         os.close(to_it)
         os.close(from_it)
         self._to = mine

@@ -10,7 +10,7 @@ import random
 from tests.convert import pages
 from tests.convert.files import directories_of, get, strips_of
 from tests.finding import found
-from tests.web import faxes, verdicts
+from tests.web import faxes, receiving, verdicts
 from tests.web.verdicts import counted
 
 # The size of a thumbnail, how much darker ink is drawn in it, and the grey of rows that are lost.
@@ -80,6 +80,14 @@ def bare(program: str) -> Content:
     return dataclasses.replace(it, data=strip, shape=204 / 98)
 
 
+def mended(program: str, data: bytes) -> Content:
+    """A fax of which the receiver mended rows of the first page."""
+    it = whole(program, data)
+    verdict = it.verdict.replace("This fax is whole", "All rows are there") + " The receiver mended 23 rows of page 1."
+    fields = [{receiving.BAD: 23, receiving.CLEAN: 1}, *([{}] * (it.count - 1))]
+    return dataclasses.replace(it, data=receiving.counted(data, fields), verdict=verdict, look="mended")
+
+
 def damaged(program: str, path: str) -> Content | None:
     """A fax with rows that are lost, if each of its pages has something that can be read, in the usual resolution."""
     listed = faxes.said(program, "list", path).splitlines()
@@ -125,6 +133,7 @@ def all_contents(program: str, room: str) -> list[Content]:
              b"": "an empty file. Ask for it again."}
     known = [whole(program, data.ljust(most, b"\0")) for data in faxes_drawn]
     known += [whole(program, long), whole(program, images), bare(program)]
+    known.append(mended(program, faxes.drawn(program, 520, 3)))
     known += [it for path in faxes.damaged(program, room) if (it := damaged(program, path))]
     known += [Content(data, f"This is no fax that is read here, but {kind}", "other") for data, kind in kinds.items()]
     return list({it.verdict: it for it in known}.values())

@@ -96,7 +96,7 @@ def many(browser: Browser, program: str, room: str) -> Generator[Claim, None, No
     opened(browser, *names, SAMPLE)
     looks = browser.run("app.faxes.map(Files.lookOf)")
     counts = {look: looks.count(look) for look in ("whole", "slight", "damaged")}
-    words = {"whole": "whole", "slight": "readable, rows are missing", "damaged": "much is missing"}
+    words = {"whole": "whole", "slight": "readable with missing rows", "damaged": "with much missing"}
     wanted = "; ".join(f"{count} {words[look]}" for look, count in counts.items() if count)
     yield "they are counted", browser.run(
         'document.getElementById("files-count").textContent'), f"300 files: {wanted}"

@@ -18,7 +18,7 @@ from typing import Any, Callable, Generator
 
 from tests import Claim
 from tests.convert.files import put
-from tests.web import contents
+from tests.web import contents, words
 from tests.web.browser import Browser, Failed
 from tests.web.contents import Content
 from tests.web.racing import WATCH
@@ -49,7 +49,7 @@ FIRST = re.compile(r"This file was not read: (.*)")
 WHY = {
     "the file is gone from its place, or was changed there: open it again.": "touched",
     "the file was changed on the disk: open it again once it is whole.": "touched",
-    f"what reads it broke down: {BROKE}": "broken",
+    "what reads it broke down: the browser does not say why.": "broken",
 }
 LEFT = re.compile(r"You stopped the reading\. Of ([\d,]+) pages, those before page ([\d,]+) were read\.")
 SETTLED = """(() => {
@@ -177,6 +177,7 @@ class Operator:
             it.saved.clear()
         self.browser.go(self.browser.run("location.href"))
         self.browser.run(WATCH_ANEW)
+        self.browser.run(words.MARK)
         self.browser.until(f"app.faxes.length === {len(self.opened)}", SOON)
         at = self.browser.run("app.fax ? app.faxes.indexOf(app.fax) : -1")
         if self.shown not in self.opened or at != self.opened.index(self.shown):
@@ -351,6 +352,7 @@ class Operator:
         for code in ("de", "en"):
             self.browser.run(f"""document.getElementById("language").value = "{code}";
                 document.getElementById("language").dispatchEvent(new Event("change"))""")
+        self.wrong += words.left(self.browser)
         return "speak German, and English again"
 
     def step(self, grows: bool) -> None:
@@ -378,7 +380,8 @@ class Operator:
             return [f"it hangs: {self.browser.run(HANGS)}"]
         self.is_settled = True
         seen = json.loads(self.browser.run(SEEN))
-        return [*self.wrong, *self.of_all(seen), *(self.of_shown(seen, self.shown) if self.shown else [])]
+        return [*self.wrong, *self.of_all(seen), *(self.of_shown(seen, self.shown) if self.shown else []),
+                *words.left(self.browser)]
 
     def of_all(self, seen: Any) -> list[str]:
         """What differs in the list, in workers and in memory."""
@@ -491,6 +494,7 @@ def grown_by(browser: Browser, first: int) -> int:
 def operated(browser: Browser, program: str, room: str) -> Generator[Claim, None, None]:
     """Whatever is done, what is seen is what the model says."""
     browser.run(WATCH)
+    browser.run(words.MARK)
     known = contents.all_contents(program, room)
     yield "contents were drawn", len(known) > 12, True
     first, grew, looks, opened = browser.memory(), 0, 0, 0

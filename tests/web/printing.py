@@ -1,5 +1,5 @@
 """What is printed of the page: all pages, or those that are chosen, each on a sheet of its own, as large as it was sent
-or smaller where the sheet is, and turned as the sheet lies."""
+or smaller where the sheet is, and turned as the sheet lies; or a PDF, where the browser prints one out of a frame."""
 
 from __future__ import annotations
 
@@ -16,6 +16,8 @@ from tests.convert.files import get, put
 from tests.finding import found
 from tests.web import faxes
 from tests.web.browser import Browser
+from tests.web.headers import Served, named
+from tests.web.screen import Printer
 
 # Sheets in inches. Firefox's protocol, too, takes a width that is more than the height.
 SHEETS = {"A4": (8.27, 11.69), "Letter": (8.5, 11), "A4, lying": (11.69, 8.27), "A3": (11.69, 16.54),
@@ -183,6 +185,66 @@ def in_sight(browser: Browser, _program: str, room: str) -> Generator[Claim, Non
     yield "one sheet", len(told), 1
     yield "with ink", told[0][1] != (0, 0, 0, 0), True
     browser.run("while (app.fax) app.close()")
+
+
+def papers(pdf: bytes, room: str) -> list[tuple[float, float]]:
+    """The size of each page of a PDF as it is shown, in inches."""
+    told = subprocess.run(["pdfinfo", "-f", "1", "-l", "9999", put(f"{room}/paper.pdf", pdf)], capture_output=True,
+                          check=True).stdout.decode()
+    sizes = re.findall(r"^Page +\d+ size: +([\d.]+) x ([\d.]+) pts", told, re.M)
+    turns = re.findall(r"^Page +\d+ rot: +(\d+)", told, re.M)
+    return [(float(down) / 72, float(across) / 72) if turn in ("90", "270") else (float(across) / 72, float(down) / 72)
+            for (across, down), turn in zip(sizes, turns)]
+
+
+def by_pdf(browser: Printer, program: str, room: str) -> Generator[Claim, None, None]:
+    """Where the browser prints a PDF out of a frame, each page has its own size, as it is turned, and no other; pages
+    can be chosen, and be very many; a server's rules that let no frame in have pictures be printed."""
+    if lacks_poppler():
+        return
+    sizes = [(1728, 2292), (800, 900), (2292, 1728), (1728, 600), (2432, 3332)]
+    path = put(f"{room}/sizes.tif", faxes.convert(program, b"".join(framed(*size) for size in sizes), "-o", "mmr"))
+    wanted = [(wide / 204, rows / 196) for wide, rows in sizes]
+    wanted[1] = wanted[1][::-1]
+    for headers, isolated in (({}, False), (named(), True)):
+        server = Served(headers)
+        browser.go(server.address)
+        yield f"rules of the server: {bool(headers)}", browser.run("crossOriginIsolated"), isolated
+        opened(browser, path)
+        browser.run("app.goTo(1); app.view.turn(1); document.getElementById('print').click()")
+        pdf = browser.paper()
+        yield "the size of each page", [near(one, other) for one, other in zip(papers(pdf, room), wanted)], [True] * 5
+        yield "each page has ink", [it != (0, 0, 0, 0) for _, it in sheets(pdf, room)], [True] * 5
+        yield "the page itself was not asked to print", browser.run("asked"), 0
+        browser.run('document.getElementById("chosen").value = "4, 3"; document.getElementById("print").click()')
+        yield "pages that are named", [near(one, other) for one, other in zip(
+            papers(browser.paper(), room), wanted[2:4])], [True] * 2
+        server.shutdown()
+    server = Served({"Content-Security-Policy": named()["Content-Security-Policy"].replace("frame-src blob:", "")})
+    browser.go(server.address)
+    opened(browser, path)
+    browser.run('document.getElementById("print").click()')
+    asked(browser)
+    yield "where no frame is let in, pictures are printed", browser.run(
+        "[document.querySelectorAll('.paper-sheet').length, document.querySelectorAll('iframe').length]"), [5, 0]
+    server.shutdown()
+    yield from very_many(browser, program, room)
+
+
+def very_many(browser: Printer, program: str, room: str) -> Generator[Claim, None, None]:
+    """More pages than have room as pictures are printed at once."""
+    server = Served({})
+    browser.go(server.address)
+    opened(browser, put(f"{room}/many.tif", faxes.convert(program, faxes.image("marks", 9) * 301, "-o", "mmr")))
+    browser.run('document.getElementById("print").click()')
+    yield "301 pages", len(papers(browser.paper(), room)), 301
+    browser.run("while (app.fax) app.close()")
+    server.shutdown()
+
+
+def near(one: tuple[float, float], other: tuple[float, float]) -> bool:
+    """Whether two sizes in inches are one."""
+    return all(abs(mine - its) < 0.02 for mine, its in zip(one, other))
 
 
 PARTS: list[Any] = [all_pages, many, fitted, whole, in_sight]

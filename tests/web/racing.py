@@ -189,7 +189,7 @@ def crashes(browser: Browser, program: str, room: str) -> Generator[Claim, None,
     browser.until(f"app.faxes.length === 2 && app.faxes.every((fax) => fax.state === 'done') && {DRAWN}")
     browser.run("""app.fax.life.worker.dispatchEvent(
         new ErrorEvent("error", { message: "it broke", cancelable: true }))""")
-    browser.until(f'{VERDICT}.includes("broke down: it broke")', SOON)
+    browser.until(f'{VERDICT}.includes("broke down: the browser does not say why.")', SOON)
     yield "it is not called whole any more", browser.run('document.getElementById("verdict").className'), "left"
     yield "a call ends with an error", browser.run(
         'app.fax.ask("small", { page: 0, most: 9 }).then(() => "answered", (error) => error.message)'), "it broke"

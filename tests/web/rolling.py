@@ -3,9 +3,10 @@ not drawn yet; also where all pages are higher than a browser lets an element be
 
 from __future__ import annotations
 
+import os
 from typing import Any, Generator
 
-from tests import Claim
+from tests import TOP, Claim
 from tests.convert import pages
 from tests.convert.files import get, put
 from tests.web import faxes, missing
@@ -177,4 +178,59 @@ def unreadable(browser: Browser, program: str, room: str) -> Generator[Claim, No
     browser.run("app.view.setZoom('whole'); while (app.fax) app.close()")
 
 
-PARTS: list[Any] = [one_bar, no_empty_frames, ahead, short_bar, unreadable]
+def resized(browser: Browser, program: str, room: str) -> Generator[Claim, None, None]:
+    """A page that begins at the top of the view does so too once the window has another size, as on a phone that is
+    turned; one that was scrolled stays where it is."""
+    path = long(program, room)
+    for zoom in ("whole", "wide"):
+        opened(browser, path, zoom)
+        browser.run(f"app.goTo(5); {RESTS}")
+        for size in ((390, 844), (844, 390), (1280, 900)):
+            browser.resize(*size)
+            browser.run(RESTS)
+            yield f"{zoom}, {size}: the page begins at the top", browser.run(PLACE)[:2], [5, -8]
+    browser.run(f"app.view.view.scrollBy(0, 300); {RESTS}")
+    browser.resize(1000, 700)
+    browser.run(RESTS)
+    yield "a page that was scrolled is not at its top", browser.run(PLACE)[:2] != [5, -8], True
+    browser.resize(1280, 900)
+    browser.run("app.view.setZoom('whole'); while (app.fax) app.close()")
+
+
+# How many frames are scrolled in the first second, and in how many of them a page may lack its picture.
+FIRST_FRAMES, FIRST_EMPTY = 61, 6
+# How often a fax is opened, and in how many milliseconds its first page stands.
+TIMES, SOON = 9, 300
+
+
+def first_second(browser: Browser, program: str, room: str) -> Generator[Claim, None, None]:
+    """The first page stands in 0.3 seconds, the least of some times, and what is scrolled to right then is there, in
+    small at least. What other programs want of the processors counts, so their load is said."""
+    browser.run("""document.getElementById("choose").addEventListener("change", () => {
+        const began = performance.now();
+        window.stood = 0;
+        const look = () => {
+            const { sheet, fax, hasDrawn } = app.view;
+            const stands = fax === app.fax && fax && hasDrawn && sheet && sheet.tiles.size > 0 &&
+                [...sheet.tiles.values()].every((tile) => tile.dataset.drawn);
+            window.stood = stands ? performance.now() - began : 0;
+            if (!stands) requestAnimationFrame(look);
+        };
+        requestAnimationFrame(look);
+    }, true)""")
+    path, stood, empty = long(program, room), list[float](), list[int]()
+    for at in range(TIMES):
+        browser.run("while (app.fax) app.close(); app.view.zoom = 'wide'")
+        browser.choose("#choose", path if at % 3 == 0 else f"{TOP}/samples/received/over-a-noisy-line.tif")
+        stood.append(browser.until("window.stood"))
+        if at % 3 == 0:
+            empty.append(browser.run(EMPTY.replace(f"=== {FRAMES}", f"=== {FIRST_FRAMES}"))[1])
+    load = os.getloadavg()[0] / (os.cpu_count() or 1)
+    print(f"({type(browser).__name__}: the first page stood in {min(stood):.0f} to {max(stood):.0f} ms; of "
+          f"{FIRST_FRAMES} frames {empty} were empty; load of a processor {load:.1f})")
+    yield f"the first page stands soon, of {stood}", min(stood) < SOON * max(1.0, load / 2), True
+    yield f"the first second has few empty frames, of {empty}", min(empty) <= FIRST_EMPTY * max(1.0, load / 2), True
+    browser.run("app.view.setZoom('whole'); while (app.fax) app.close()")
+
+
+PARTS: list[Any] = [first_second, resized, one_bar, no_empty_frames, ahead, short_bar, unreadable]

@@ -1,13 +1,19 @@
 """Firefox with a window, on a screen of Xvfb: without one it has no clipboard but for texts. What the protocol has no way
-to, the choice of a folder, is done in the parts of the browser itself."""
+to, the choice of a folder, is done in the parts of the browser itself. And Chromium with a window, which without one
+prints no PDF out of a frame."""
 
 from __future__ import annotations
 
 import json
 import os
+import shutil
 import subprocess
+import tempfile
+import time
 
-from tests.web.browser import Failed, awaited
+from tests.convert.files import get
+from tests.web.browser import MOST, Failed, awaited
+from tests.web.chromium import Chromium
 from tests.web.firefox import CONTROL, Firefox
 
 # A function in the browser: in place of the dialog by which people choose a folder, one that is told is chosen. What
@@ -47,14 +53,12 @@ CARRIES = """const input = content.document.getElementById("carried");
     input.mozSetDndFilesAndDirectories([new content.Directory(%s)]);"""
 
 
-class OnScreen(Firefox):
-    """One Firefox in a window that has the focus."""
+class Screen:
+    """A screen of Xvfb, by its number."""
 
-    WORDS = ["--remote-allow-system-access"]
-
-    def __init__(self, size: tuple[int, int] = (1280, 900)) -> None:
+    def __init__(self) -> None:
         mine, its = os.pipe()
-        self._screen = subprocess.Popen(
+        self._process = subprocess.Popen(
             ["Xvfb", "-displayfd", str(its), "-screen", "0", "1600x1200x24", "-nolisten", "tcp"], pass_fds=(its,),
             stdin=subprocess.DEVNULL, stdout=subprocess.DEVNULL, stderr=subprocess.DEVNULL)
         os.close(its)
@@ -62,7 +66,58 @@ class OnScreen(Firefox):
             number = told.readline().strip()
         if not number:
             raise Failed("Xvfb does not start")
-        super().__init__(size, DISPLAY=f":{number}")
+        self.name = f":{number}"
+
+    def close(self) -> None:
+        self._process.terminate()
+        self._process.wait()
+
+
+class Printer(Chromium):
+    """One Chromium in a window, which writes what it is asked to print as PDF, without a dialog."""
+
+    WORDS = [*(word for word in Chromium.WORDS if not word.startswith("--headless")), "--kiosk-printing"]
+
+    def __init__(self, size: tuple[int, int] = (1280, 900)) -> None:
+        self._screen, self._written = Screen(), tempfile.mkdtemp()
+        self.environment = {"DISPLAY": self._screen.name}
+        super().__init__(size)
+
+    def prepare(self, folder: str) -> None:
+        """What its settings say, before it starts: what is printed goes into a file."""
+        place = {"id": "Save as PDF", "origin": "local", "account": ""}
+        state = {"version": 2, "selectedDestinationId": place["id"], "recentDestinations": [place]}
+        os.makedirs(f"{folder}/Default")
+        with open(f"{folder}/Default/Preferences", "w", encoding="ascii") as file:
+            json.dump({"printing": {"print_preview_sticky_settings": {"appState": json.dumps(state)}},
+                       "savefile": {"default_directory": self._written}}, file)
+
+    def paper(self) -> bytes:
+        """What it has printed, once it is there, as PDF."""
+        end = time.monotonic() + MOST
+        while time.monotonic() < end:
+            names = [f"{self._written}/{name}" for name in os.listdir(self._written) if name.endswith(".pdf")]
+            data = get(names[0]) if names else b""
+            if data.rstrip().endswith(b"%%EOF"):
+                os.unlink(names[0])
+                return data
+            time.sleep(0.05)
+        raise Failed("nothing was printed")
+
+    def close(self) -> None:
+        super().close()
+        self._screen.close()
+        shutil.rmtree(self._written, ignore_errors=True)
+
+
+class OnScreen(Firefox):
+    """One Firefox in a window that has the focus."""
+
+    WORDS = ["--remote-allow-system-access"]
+
+    def __init__(self, size: tuple[int, int] = (1280, 900)) -> None:
+        self._screen = Screen()
+        super().__init__(size, DISPLAY=self._screen.name)
         # The first window of a browser that is told what to do has no focus.
         self._page = self.call("browsingContext.create", type="window")["context"]
         self.call("browsingContext.activate", context=self._page)
@@ -101,5 +156,4 @@ class OnScreen(Firefox):
 
     def close(self) -> None:
         super().close()
-        self._screen.terminate()
-        self._screen.wait()
+        self._screen.close()
