@@ -50,6 +50,36 @@ title_of() {
     printf '%s' "${1##*/}" | LC_ALL=C tr -c ' -~' '?'
 }
 
+# What receivers say of bad rows, in a line, by the report of `faxpages check --received`: how many of which page they
+# mended, or left, with pages numbered from 1.
+mended() {
+    awk '
+        function rows(count) { return count == 0 ? "rows" : count == 1 ? "1 row" : count " rows" }
+        function say(kind, done) {
+            if (!pages[kind]) return
+            said = said (said == "" ? "" : "; ") done " by the receiver: " \
+                (pages[kind] > 2 ? rows(all[kind]) " of " pages[kind] " pages" : named[kind])
+        }
+        $1 == "note" && $4 == "N6" {
+            kind = $8 == 2
+            all[kind] += $6
+            named[kind] = named[kind] (pages[kind]++ ? " and " : "") rows($6 + 0) " of page " ($3 + 1)
+        }
+        END {
+            say(0, "mended")
+            say(1, "left bad")
+            if (said != "") print said
+        }' "$@"
+}
+
+# Whether receivers say that more than so many percent of the rows of a report were bad: is_mended_beyond PERCENT REPORT.
+is_mended_beyond() {
+    awk -v most="$1" '
+        $1 == "note" && $4 == "N6" && $6 != "-" { bad += $6 }
+        $1 == "pages" { rows = $4 }
+        END { exit !(100 * bad > most * rows) }' "$2"
+}
+
 # Makes a folder FOLDER/NAME.XXXXXX of this call's own, whose path the variable has then. The descriptor locks it until
 # the call has ended, and all that it started. What killed calls left there is deleted.
 #   make_own VARIABLE DESCRIPTOR FOLDER/NAME
