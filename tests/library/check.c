@@ -6,7 +6,7 @@
 #include <string.h>
 
 static const char *const notes_names[] = {"",           "NoEndOfBlock", "ReturnToControl", "DataAfterEnd",
-                                          "NotT4Choice", "EntriesOutOfOrder"};
+                                          "NotT4Choice", "EntriesOutOfOrder", "BadFaxLines"};
 
 static uint8_t *read_file(const char *name, size_t *len) {
     FILE *in = fopen(name, "rb");

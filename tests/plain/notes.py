@@ -11,7 +11,7 @@ from tests.plain.reading import (
 )
 from tests.plain.tables import EOL
 
-NAMES = ["NoEndOfBlock", "ReturnToControl", "DataAfterEnd", "NotT4Choice", "EntriesOutOfOrder"]
+NAMES = ["NoEndOfBlock", "ReturnToControl", "DataAfterEnd", "NotT4Choice", "EntriesOutOfOrder", "BadFaxLines"]
 
 
 # What T.4 chooses.
@@ -107,7 +107,7 @@ def received_lines(file: File, entries: Entries, page: int) -> list[str]:
     if not bad and not clean:
         return []
     numbers = " ".join("-" if number is None else str(number) for number in (bad, consecutive, clean))
-    return [f"note page {page}: N6 BadFaxLines {numbers}"]
+    return [f"{note_line(page, None, 'BadFaxLines')} {numbers}"]
 
 
 # Files.
