@@ -44,7 +44,7 @@ def by_program(program: str) -> Iterator[Claim]:
     files = list(ended(FILES))
     texts = [notes.report_of(file) for file in files]
     yield "check, as a plain reading", [run(program, ["check"], file) for file in files] == texts, True
-    noted = sum("N6 DataAfterMark" in text[0] for text in texts)
+    noted = sum("N7 DataAfterMark" in text[0] for text in texts)
     yield f"{noted} of {len(files)} have the note", len(files) // 20 < noted < len(files) - len(files) // 20, True
     for target in ("mh", "mr", "mmr", "pbm"):
         words = ["convert", "-o", target]
@@ -57,7 +57,7 @@ def by_python() -> Iterator[Claim]:
     """The module has both."""
     with open(os.path.join(TOP, "tests", "runs", "inputs", "check-data-after-end-of-block.tif"), "rb") as file:
         data = file.read()
-    names = ["N3 DataAfterEnd", "N6 DataAfterMark"]
+    names = ["N3 DataAfterEnd", "N7 DataAfterMark"]
     yield "Python: notes of a file", [f"N{it.number} {it.name}" for it in faxpages.check(data).notes], names
     # The struct of a strip's report stays as it is within version 1, and has no place for a new note.
     of_strip = [f"N{it.number} {it.name}" for it in faxpages.check_strip(MARKED, 8, 1).notes]
