@@ -162,10 +162,15 @@ impl Format for Row {
     #[inline(always)]
     fn put(&mut self, row: LentRow<'_>) {
         (self.page, self.number, self.width) = (row.page, row.number, row.width());
+        let is_white = row.changes().is_empty();
         if self.packed.len() != row.stride() {
             self.packed = vec![0; row.stride()];
+        } else if is_white {
+            self.packed.fill(0);
         }
-        row.pack_into(&mut self.packed);
+        if !is_white {
+            row.pack_into(&mut self.packed);
+        }
     }
 }
 
