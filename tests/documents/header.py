@@ -44,4 +44,5 @@ def statuses() -> str:
     """What each status means, as the manual page has it."""
     body = next(piece for piece in types() if piece.startswith("enum faxpages_status {"))
     found = re.findall(r"(FAXPAGES_\w+) = \d+,?\s+/\*(.*?)\*/", body, re.S)
-    return "".join(f".TP\n.B {name}\n{' '.join(re.sub(r'(?m)^ *[*]', '', text).split())}\n" for name, text in found)
+    said = ((name, " ".join(re.sub(r"(?m)^ *[*]", "", text).split())) for name, text in found)
+    return "".join(f".TP\n.B {name}\n{textwrap.fill(text, 80)}\n" for name, text in said)
