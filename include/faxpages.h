@@ -208,9 +208,8 @@ struct faxpages_place {
 /* Does the same from a place on, and leaves there the place after the written rows, after DONE and
    NO_ROOM alike, so that no written row is read again: begin with {0, 0, 0, 0}, and call while it
    is DONE or NO_ROOM. That ends for any file, if rows_room is not 0 and `out` has room for a row.
-   Each call follows the chain of directories up to its page, so ask for thousands of rows a call,
-   over as many pages as they have: then a file is read in a time in proportion to its length and
-   its rows.
+   Each call follows the chain of directories up to its page: ask for thousands of rows a call, over
+   pages, and a file is read in a time in proportion to its length and its rows.
 
    `runs` has the runs of the place, before the call and after it; let runs_room be FAXPAGES_RUNS.
    No run after the first FAXPAGES_RUNS is changed. If a row was written, of these the ones after
@@ -320,9 +319,9 @@ uint32_t faxpages_salvage_from(const uint8_t *file, size_t file_len, struct faxp
                                struct faxpages_told *told);
 
 /* The bad rows that the receiver of a page counted, those that it could not read, in three fields
-   of TIFF-F (RFC 2306): each number, and before it 1 if the page has it, otherwise 0. A number that
-   the page does not have is 0: there is no such field, or it is neither SHORT nor LONG, or its
-   first value lies outside the file. If two entries have the tag, the first one counts. */
+   of TIFF-F (RFC 2306): each number, and before it 1. Both are 0 if there is no such field, it is
+   neither SHORT nor LONG, or its first value lies outside the file. If two entries have the tag,
+   the first one counts. */
 struct faxpages_received {
     uint32_t has_bad_rows;
     uint32_t bad_rows; /* 326, BadFaxLines: how many rows were bad */
@@ -335,9 +334,9 @@ struct faxpages_received {
     struct faxpages_fault fault;
 };
 
-/* Writes the bad rows that the receiver of a page counted. These fields are never a fault. DONE; or
-   END, OUTSIDE or FAULT, as for faxpages_page: then all numbers are 0. Receivers need not count,
-   and may count too few: a page without such a number may have bad rows. */
+/* Writes them. These fields are never a fault. DONE; or END, OUTSIDE or FAULT, as for
+   faxpages_page: then all numbers are 0. Receivers need not count, and may count too few: a page
+   without such a number may have bad rows. */
 uint32_t faxpages_received(const uint8_t *file, size_t file_len, uint32_t page,
                            struct faxpages_received *received);
 
@@ -367,12 +366,12 @@ struct faxpages_strip {
    Otherwise rows are read: DONE, if `out` is full; END, if all rows of the form were read; or
    FAULT, at a row that cannot be read.
 
-   If the height is unknown, `rows` of the form is 0. Then there may be up to 1000000 rows, and the
-   call reports how they end: END, if an end mark is where the next row would be, a return to
-   control in MH and MR, the end of facsimile block in MMR; END_OF_DATA, if at least one row was
-   read and only zeros remain; FAULT, if the next row cannot be read, as with DATA_ENDS if it is
-   cut; or FAULT with TOO_MANY_ROWS, if more follows 1000000 rows. At row 1000000 the runs are not
-   looked at, and bits after the strip are its end; a row after that is OUTSIDE.
+   At unknown height, with `rows` 0, there may be up to 1000000 rows, and the call reports how they
+   end: END, if an end mark is where the next row would be, a return to control in MH and MR, the
+   end of facsimile block in MMR; END_OF_DATA, if at least one row was read and only zeros remain;
+   FAULT, if the next row cannot be read, as with DATA_ENDS if it is cut; or FAULT with
+   TOO_MANY_ROWS, if more follows 1000000 rows. At row 1000000 the runs are not looked at, and bits
+   after the strip are its end; a row after that is OUTSIDE.
 
    FAULT leaves the place at the row that was next, and so do END and END_OF_DATA if `rows` is 0. So
    if the strip grows, call again after DATA_ENDS from that place with more bytes, or call
@@ -411,13 +410,12 @@ uint32_t faxpages_strip_part(const uint8_t *strip, size_t strip_len,
    rows are written, and the first stretches, as many as have room: DONE, if these are all, or
    NO_ROOM.
 
-   If the height is unknown, `rows` of the form is 0. Then the rows go up to an end mark, or to the
-   end of the data after a row, or to a lost row after which no EOL remains, or to row 1,000,000;
-   the last one too must be followed by an EOL or zeros, unless it is row 1,000,000. MEMORY comes
-   before NO_ROOM, and if the raster has no room, `row` of `told` is how many rows there are: 3 MB
-   of data can have 1,000,000. Instead of DONE the call reports how they end, as faxpages_strip_rows
-   does: END, END_OF_DATA, or FAULT, whose row is the lost one, the last; for TOO_MANY_ROWS it is
-   1,000,000. */
+   At unknown height the rows go up to an end mark, or to the end of the data after a row, or to a
+   lost row after which no EOL remains, or to row 1,000,000; the last one too must be followed by an
+   EOL or zeros, unless it is row 1,000,000. MEMORY comes before NO_ROOM, and if the raster has no
+   room, `row` of `told` is how many rows there are: 3 MB of data can have 1,000,000. Instead of
+   DONE the call reports how they end, as faxpages_strip_rows does: END, END_OF_DATA, or FAULT,
+   whose row is the lost one, the last; for TOO_MANY_ROWS it is 1,000,000. */
 uint32_t faxpages_salvage_strip(const uint8_t *strip, size_t strip_len,
                                 const struct faxpages_strip *form, uint8_t *out, size_t out_room,
                                 size_t stride, struct faxpages_lost *lost, size_t lost_room,
@@ -427,10 +425,10 @@ uint32_t faxpages_salvage_strip(const uint8_t *strip, size_t strip_len,
 struct faxpages_strip_report {
     uint32_t rows;              /* how many rows were read: without a fault those of the form, or
                                  * all that there are if it has 0 */
-    uint32_t no_end_of_block;   /* N1: 1 in MMR without an end of facsimile block */
-    uint32_t return_to_control; /* N2: 1 in MH and MR with a return to control there */
-    uint32_t data_after_end;    /* N3: 1 if a 1 follows the last row and its end mark */
-    uint32_t not_t4_choice;     /* N4: 1 if a row has other codes than T.4's choice */
+    uint32_t no_end_of_block;   /* 1 if note N1 of enum faxpages_note_kind is on it, else 0 */
+    uint32_t return_to_control; /* N2 */
+    uint32_t data_after_end;    /* N3 */
+    uint32_t not_t4_choice;     /* N4 */
     struct faxpages_fault fault;
 };
 
@@ -438,9 +436,9 @@ struct faxpages_strip_report {
    form; FAULT, if one cannot be read: then the notes are 0; NO_OPTIONS, if the form is invalid or
    strip_len is more than 536870911, or MEMORY: then the report is unchanged.
 
-   If the height is unknown, `rows` of the form is 0, and `rows` of the report says how many there
-   are. They end as for faxpages_strip_rows: END, with an end mark, maybe before any row, or
-   END_OF_DATA, both with the notes on a strip of so many rows; or FAULT. */
+   At unknown height `rows` of the report says how many there are. They end as for
+   faxpages_strip_rows: END, with an end mark, maybe before any row, or END_OF_DATA, both with the
+   notes on a strip of so many rows; or FAULT. */
 uint32_t faxpages_strip_check(const uint8_t *strip, size_t strip_len,
                               const struct faxpages_strip *form,
                               struct faxpages_strip_report *report);
@@ -518,7 +516,7 @@ uint32_t faxpages_place_parse(const uint8_t *text, size_t text_len, struct faxpa
 
 /* The kinds of notes: what may trouble other readers of a file. */
 enum faxpages_note_kind {
-    FAXPAGES_NO_END_OF_BLOCK = 1,      /* N1: a strip of MMR without the end of its block */
+    FAXPAGES_NO_END_OF_BLOCK = 1,      /* N1: a strip of MMR without its end of facsimile block */
     FAXPAGES_RETURN_TO_CONTROL = 2,    /* N2: a strip of MH or MR with a return to control */
     FAXPAGES_DATA_AFTER_END = 3,       /* N3: a strip with a 1 after its last row and end mark */
     FAXPAGES_NOT_T4_CHOICE = 4,        /* N4: a strip with a row in other codes than T.4's choice */
@@ -568,8 +566,7 @@ struct faxpages_converted {
 
 /* Converts a file: raw PBM if it begins with P4, and TIFF-F if it begins with II or MM, into raw
    PBM or TIFF-F. DONE; NO_ROOM, where `len` says how much is needed (let out_room be 0 to ask);
-   FAULT, without output; NO_OPTIONS or MEMORY, with all of `converted` 0. The output has at most
-   268435456 bytes. */
+   FAULT, without output; NO_OPTIONS or MEMORY, with all of `converted` 0. */
 uint32_t faxpages_convert(const uint8_t *file, size_t file_len,
                           const struct faxpages_options *options, uint8_t *out, size_t out_room,
                           struct faxpages_converted *converted);

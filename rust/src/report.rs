@@ -104,7 +104,7 @@ macro_rules! kinds {
 }
 
 kinds! {
-    NoEndOfBlock = 1, "N1: a strip of MMR without the end of its block.";
+    NoEndOfBlock = 1, "N1: a strip of MMR without its end of facsimile block.";
     ReturnToControl = 2, "N2: a strip of MH or MR with a return to control.";
     DataAfterEnd = 3, "N3: a strip with a 1 after its last row and end mark.";
     NotT4Choice = 4, "N4: a strip with a row in other codes than T.4's choice.";
