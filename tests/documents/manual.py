@@ -1,5 +1,5 @@
 """The faults and notes of faxpages(1), which are those of docs/TROUBLESHOOTING.md: what each means, and what to do about
-notes and about faults of the machine."""
+faults of the machine."""
 
 from __future__ import annotations
 
@@ -12,7 +12,7 @@ FAULTS = ["Faults of the file", "Faults of a row", "Faults of images", "Faults o
 NOTES = "Notes"
 # The faults that their section introduces, and those of which the manual page has what to do.
 INTRODUCED = FAULTS[2]
-ADVISED = {FAULTS[-1], NOTES}
+ADVISED = {FAULTS[-1]}
 TAGGED = {"MissingField", "BadField", "Unsupported", "OutOfLimits"}
 # What the library alone reports.
 OF_THE_LIBRARY = "TooManyRows"
