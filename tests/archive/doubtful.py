@@ -68,7 +68,8 @@ def only_unmounted(room: Room) -> None:
     os.rename(f"{place}/copies", f"{place}/disk")
     os.mkdir(f"{place}/copies")
     before = table_of(place)
-    for words in ([], ["--gone"]):
+    options: list[list[str]] = [[], ["--gone"]]
+    for words in options:
         ran = verify(place, *words)
         room.claim(f"verify {words}", (ran.status, ran.out, "which is empty; nothing is changed" in ran.error,
                                        table_of(place) == before), (3, "", True, True))
@@ -177,8 +178,7 @@ def same_step(room: Room, *_given: object) -> None:
             file.write(fax[:8])
         os.utime(f"{place}/a.tif", ns=(told.st_mtime_ns, told.st_mtime_ns))
 
-    with mock.patch.object(_fax.time, "sleep", written), mock.patch.object(
-            _fax.time, "time", lambda: told.st_mtime + 0.001):
+    with mock.patch.object(time, "sleep", written), mock.patch.object(time, "time", lambda: told.st_mtime + 0.001):
         done = _fax.Job(os.fsencode(place)).do(_fax.Waiting(b"a.tif", len(fax), told.st_mtime))
     room.claim("a fax whose end is written at the same time", (done.found.status, done.found.fault), (0, None))
 

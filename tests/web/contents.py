@@ -84,7 +84,8 @@ def mended(program: str, data: bytes) -> Content:
     """A fax of which the receiver mended rows of the first page."""
     it = whole(program, data)
     verdict = it.verdict.replace("This fax is whole", "All rows are there") + " The receiver mended 23 rows of page 1."
-    fields = [{receiving.BAD: 23, receiving.CLEAN: 1}, *([{}] * (it.count - 1))]
+    fields: list[dict[int, int]] = [{} for _ in range(it.count)]
+    fields[0] = {receiving.BAD: 23, receiving.CLEAN: 1}
     return dataclasses.replace(it, data=receiving.counted(data, fields), verdict=verdict, look="mended")
 
 

@@ -206,7 +206,8 @@ def by_pdf(browser: Printer, program: str, room: str) -> Generator[Claim, None, 
     path = put(f"{room}/sizes.tif", faxes.convert(program, b"".join(framed(*size) for size in sizes), "-o", "mmr"))
     wanted = [(wide / 204, rows / 196) for wide, rows in sizes]
     wanted[1] = wanted[1][::-1]
-    for headers, isolated in (({}, False), (named(), True)):
+    rules: list[tuple[dict[str, str], bool]] = [({}, False), (named(), True)]
+    for headers, isolated in rules:
         server = Served(headers)
         browser.go(server.address)
         yield f"rules of the server: {bool(headers)}", browser.run("crossOriginIsolated"), isolated

@@ -40,7 +40,8 @@ def counted(data: bytes, numbers: list[dict[int, int]]) -> bytes:
         entries = [data[at + 2 + 12 * it:at + 14 + 12 * it] for it in range(count)]
         entries += [struct.pack("<HHII", tag, 3 if tag == CLEAN else 4, 1, number) for tag, number in more.items()]
         out[link:link + 4] = struct.pack("<I", len(out))
-        out += struct.pack("<H", len(entries)) + b"".join(sorted(entries, key=lambda it: struct.unpack("<H", it[:2])))
+        entries.sort(key=lambda it: struct.unpack("<H", it[:2]))
+        out += struct.pack("<H", len(entries)) + b"".join(entries)
         link = len(out)
         out += bytes(4)
     return bytes(out)
@@ -75,8 +76,11 @@ def with_noise(browser: Browser, program: str, room: str) -> Generator[Claim, No
     path = put(f"{room}/plain.tif", data)
     said, look = missing.verdict_of(browser, path)
     left = " The receiver left 7 rows of page 1 that are bad."
-    for numbers, more in (([{BAD: 7, CLEAN: 1}, {}], " The receiver mended 7 rows of page 1."),
-                          ([{}, {BAD: 7, CLEAN: 2}], ""), ([{BAD: 7, CLEAN: 2}, {BAD: 3, CLEAN: 2}], left)):
+    noisy: list[tuple[list[dict[int, int]], str]] = [
+        ([{BAD: 7, CLEAN: 1}, {}], " The receiver mended 7 rows of page 1."),
+        ([{}, {BAD: 7, CLEAN: 2}], ""), ([{BAD: 7, CLEAN: 2}, {BAD: 3, CLEAN: 2}], left),
+    ]
+    for numbers, more in noisy:
         path = put(f"{room}/noisy.tif", counted(data, numbers))
         yield f"{numbers}: what is said", missing.verdict_of(browser, path), (said + more, look)
 
