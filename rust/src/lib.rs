@@ -104,7 +104,7 @@ pub struct Fax<'a> {
 }
 
 impl<'a> Fax<'a> {
-    /// A target, in one strip a page, with the highest bit first.
+    /// The fax of these bytes. Nothing is read yet.
     ///
     /// ```
     /// # let mut writer = faxpages::Writer::new(1)?;
