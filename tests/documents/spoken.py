@@ -20,48 +20,48 @@ sys.dont_write_bytecode = True
 from tests import TOP  # noqa: E402
 
 PLACE = os.path.join("docs", "NAMES.md")
-LANGUAGES = ["C", "Python", "Rust", "Go", "Java"]
+LANGUAGES = ["C", "Python", "Rust", "Go", "Java", "Node"]
 HEAD = """<!-- Made by tests/documents/spoken.py: change that. -->
 
 # The same things by their names
 
 How each language calls what the library has, as that language spells it. A `-` is what it has not. The header and the other sources declare each of these names, and each call of `faxpages.h` stands here: a test compares them.
 
-Where names differ there is a reason: C has calls where others have methods of what they read; `number` is a row's own number in all but C, whose structs say `row`; a name that Python or Rust has as a property or a method of its own is a member elsewhere.
+Where names differ there is a reason: C has calls where others have methods of what they read; `number` is a row's own number in all but C and Node, which say `row`; a name that Python or Rust has as a property or a method of its own is a member elsewhere.
 """
-# What a thing is; and its names in C, Python, Rust, Go and Java.
+# What a thing is; and its names in these languages.
 TABLE = """
-a file | - | open, Fax | Fax | Open, New, Fax | open, FaxPages
-the forms of its pages | faxpages_forms | Fax.forms, Fax.pages | Fax::forms | Fax.Forms | -
-a page's form | faxpages_form | Page | Form | Form | -
-its pels and its rows | width, rows | Page.width, Page.rows | width, rows | Width, Rows | -
-a page, whole | faxpages_page | Fax.page, Page.raster | Fax::page, Page | Fax.Page, Page | -
-the bytes of its rows | out | Page.packed, Raster.packed | packed | Packed | -
-rows | faxpages_rows, faxpages_rows_from, faxpages_reader_next | Fax.rows, Row | Fax::rows, Fax::lend_rows, Row | Fax.Rows, Row | rows, Row
-a row's page and number | page, row | Row.page, Row.number | page, number | Page, Number | page, number
-runs | faxpages_runs, faxpages_runs_from | Row.runs | Fax::runs, runs, RowRuns | Fax.Runs, Row.Runs, RowRuns | runs
-changing elements | faxpages_changes, faxpages_changes_from | - | Fax::changes, changes, RowChanges | - | -
-where to go on | faxpages_place, faxpages_place_text, faxpages_place_parse | Cursor | Cursor | - | -
-a page, salvaged | faxpages_salvage | Page.salvaged, Salvaged | Fax::salvaged, Salvaged | Fax.Salvage, Salvaged | salvage
-the same, row by row | faxpages_salvage_from | Page.salvaged_rows | Fax::salvaged_rows, Left | Fax.SalvagedRows, Left | salvage, Left
-rows that are lost | faxpages_lost | Stretch | Stretch | Stretch | Lost
-the first of them, how many, and why | row, rows, fault | Stretch.first, Stretch.rows, Stretch.fault, Stretch.name | first, rows, fault | First, Rows, Fault | first, rows, fault
-whether a row is lost | - | Salvaged.is_lost | is_lost | Salvaged.IsLost | -
-what the receiver counted | faxpages_received | Page.received, Received | Fax::received, Received | Fax.Received, Received | -
-a check | faxpages_check, faxpages_report | check, Report | Fax::check, Report | Fax.Check, Report | check, Report
-a note | faxpages_note, faxpages_note_name | Note | Note, NoteKind | Note, NoteKind | Note
-a conversion | faxpages_convert, faxpages_options, faxpages_converted | convert | convert, Options | Convert, Options | -
-a file that is written | faxpages_add_page, faxpages_end_pages, faxpages_written | write, encode | Writer | Writer, NewWriter, Write | salvaged
-bare T.4 or T.6 data | faxpages_strip, faxpages_strip_rows | strip | Strip, StripForm | Strip, StripForm | -
-the same, as it comes | faxpages_strip_part | StripReader | StripReader | NewReader, Reader | -
-the same, salvaged | faxpages_salvage_strip | salvage_strip | Strip::salvaged | SalvageStrip | -
-a check of it | faxpages_strip_check, faxpages_strip_report | check_strip, StripReport | Strip::check, StripReport | - | -
-rows coded as such data | faxpages_strip_code, faxpages_strip_code_runs | encode_strip | code_strip, code_strip_runs | Code | -
-a fault | faxpages_fault, faxpages_fault_name | Fault | Error, Fault | Fault, FaultNumber | Fault
-its number, its name, the tag of a field | number, tag | Fault.name, Fault.tag | number, name, tag | Number, Tag | number, tag
-its page and row | page, row | Fault.page, Fault.row | page, row | Page, Row | page, row
-what it means | - | Fault.explanation | explanation | - | -
-the version | faxpages_version, faxpages_version_text | version | version | - | -
+a file | - | open, Fax | Fax | Open, New, Fax | open, FaxPages | Faxpages, Faxpages.load
+the forms of its pages | faxpages_forms | Fax.forms, Fax.pages | Fax::forms | Fax.Forms | - | Faxpages.list
+a page's form | faxpages_form | Page | Form | Form | - | Page
+its pels and its rows | width, rows | Page.width, Page.rows | width, rows | Width, Rows | - | Page.width, Page.rows
+a page, whole | faxpages_page | Fax.page, Page.raster | Fax::page, Page | Fax.Page, Page | - | -
+the bytes of its rows | out | Page.packed, Raster.packed | packed | Packed | - | Salvaged.raster
+rows | faxpages_rows, faxpages_rows_from, faxpages_reader_next | Fax.rows, Row | Fax::rows, Fax::lend_rows, Row | Fax.Rows, Row | rows, Row | Faxpages.rows, Row
+a row's page and number | page, row | Row.page, Row.number | page, number | Page, Number | page, number | Row.page, Row.row
+runs | faxpages_runs, faxpages_runs_from | Row.runs | Fax::runs, runs, RowRuns | Fax.Runs, Row.Runs, RowRuns | runs | Faxpages.runs, Runs.runs
+changing elements | faxpages_changes, faxpages_changes_from | - | Fax::changes, changes, RowChanges | - | - | -
+where to go on | faxpages_place, faxpages_place_text, faxpages_place_parse | Cursor | Cursor | - | - | -
+a page, salvaged | faxpages_salvage | Page.salvaged, Salvaged | Fax::salvaged, Salvaged | Fax.Salvage, Salvaged | salvage | Faxpages.salvage, Salvaged
+the same, row by row | faxpages_salvage_from | Page.salvaged_rows | Fax::salvaged_rows, Left | Fax.SalvagedRows, Left | salvage, Left | -
+rows that are lost | faxpages_lost | Stretch | Stretch | Stretch | Lost | Lost
+the first of them, how many, and why | row, rows, fault | Stretch.first, Stretch.rows, Stretch.fault, Stretch.name | first, rows, fault | First, Rows, Fault | first, rows, fault | Lost.row, Lost.rows, Lost.name
+whether a row is lost | - | Salvaged.is_lost | is_lost | Salvaged.IsLost | - | -
+what the receiver counted | faxpages_received | Page.received, Received | Fax::received, Received | Fax.Received, Received | - | Faxpages.received, Received
+a check | faxpages_check, faxpages_report | check, Report | Fax::check, Report | Fax.Check, Report | check, Report | Faxpages.check
+a note | faxpages_note, faxpages_note_name | Note | Note, NoteKind | Note, NoteKind | Note | Note
+a conversion | faxpages_convert, faxpages_options, faxpages_converted | convert | convert, Options | Convert, Options | - | Faxpages.convert
+a file that is written | faxpages_add_page, faxpages_end_pages, faxpages_written | write, encode | Writer | Writer, NewWriter, Write | salvaged | Faxpages.write
+bare T.4 or T.6 data | faxpages_strip, faxpages_strip_rows | strip | Strip, StripForm | Strip, StripForm | - | HowCoded
+the same, as it comes | faxpages_strip_part | StripReader | StripReader | NewReader, Reader | - | -
+the same, salvaged | faxpages_salvage_strip | salvage_strip | Strip::salvaged | SalvageStrip | - | Faxpages.bare, BareFax
+a check of it | faxpages_strip_check, faxpages_strip_report | check_strip, StripReport | Strip::check, StripReport | - | - | -
+rows coded as such data | faxpages_strip_code, faxpages_strip_code_runs | encode_strip | code_strip, code_strip_runs | Code | - | -
+a fault | faxpages_fault, faxpages_fault_name | Fault | Error, Fault | Fault, FaultNumber | Fault | FaxFault
+its number, its name, the tag of a field | number, tag | Fault.name, Fault.tag | number, name, tag | Number, Tag | number, tag | FaxFault.fault, FaxFault.tag
+its page and row | page, row | Fault.page, Fault.row | page, row | Page, Row | page, row | FaxFault.page, FaxFault.row
+what it means | - | Fault.explanation | explanation | - | - | FaxFault.explanation
+the version | faxpages_version, faxpages_version_text | version | version | - | - | Faxpages.version
 """
 # What of the headers is of no language but C: how a call ends, and the buffers of a caller.
 OF_C = {"faxpages_told", "faxpages_row", "faxpages_status_name", "faxpages_reader", "faxpages_reader_row", "faxpages_reader_open",
@@ -132,7 +132,16 @@ def in_java() -> set[str]:
     return names | {part.split()[-1] for record in records for part in record.split(", ")}
 
 
-DECLARED = {"C": in_c, "Python": in_python, "Rust": in_rust, "Go": in_go, "Java": in_java}
+def in_node() -> set[str]:
+    """The exported types, and the members and the methods of each as Type.name."""
+    text = re.sub(r"/\*\*.*?\*/", "", read("web", "npm", "types.d.ts"), flags=re.S)
+    names = set(re.findall(r"^export (?:class|interface|type) (\w+)", text, re.M))
+    for kind, body in re.findall(r"^export (?:class|interface) (\w+)[^{]*\{\n(.*?)^\}", text, re.M | re.S):
+        names |= {f"{kind}.{name}" for name in re.findall(r"^    (?:static )?(\w+)[(?:]", body, re.M)}
+    return names
+
+
+DECLARED = {"C": in_c, "Python": in_python, "Rust": in_rust, "Go": in_go, "Java": in_java, "Node": in_node}
 
 
 def rows() -> list[list[str]]:

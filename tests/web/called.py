@@ -192,7 +192,7 @@ def bare(program: str, folder: str, room: str, run: Run, node: str) -> Generator
 
 
 def example(program: str, folder: str, run: Run) -> Generator[Claim, None, None]:
-    """The README's second example runs as it stands, after the lines that load the library."""
+    """The README's second example runs as it stands, after the lines that load the library; and the short program does."""
     texts = re.findall(r"```js\n(.*?)```", get(f"{TOP}/web/npm/README.md").decode(), re.S)
     loads = "".join(line for line in texts[0].splitlines(True) if line.startswith(("import", "const")))
     tail = """
@@ -212,6 +212,9 @@ console.log(JSON.stringify([pages.length, fault, report.rows, width, height, dat
     yield f"npm: the README's example runs: {said[:300]}", status, 0
     yield "npm: what the README's example gives", json.loads(said), [
         1, None, 90, 1728, 180, 4 * 1728 * 180, page, 90, 90, "mmr", 90]
+    shutil.copy(f"{TOP}/examples/left/left.mjs", folder)
+    yield "npm: the short program prints and copies what is left", run(
+        TOP, "tests/library/copies", program, "examples/left/left.mjs", "node", f"{folder}/left.mjs"), (0, "")
     put(f"{folder}/required.cjs", (texts[2] + "console.log(typeof Faxpages.load, FaxFault.name)").encode())
     yield "npm: and its line with require", run(folder, "node", "required.cjs"), (0, "function FaxFault\n")
 
