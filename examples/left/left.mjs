@@ -3,13 +3,14 @@ import { readFileSync, writeFileSync } from "node:fs";
 import { Faxpages } from "faxpages";
 
 const faxpages = await Faxpages.load();
-const left = [...faxpages.salvage(readFileSync(process.argv[2]))].filter(({ form }) => form);
-for (const { page, form, lost } of left) {
+const pages = [...faxpages.salvage(readFileSync(process.argv[2]))];
+for (const { page, form, lost, fault } of pages) {
     let next = 0;
-    for (const { row, rows, name } of [...lost, { row: form.rows }]) {
+    if (fault) console.log("lost", fault.message); // a page is refused
+    for (const { row, rows, name } of form ? [...lost, { row: form.rows }] : []) {
         for (; next < row; next++) console.log("row", page, next);
         if (rows) console.log("lost", page, row, rows, name);
         next += rows;
     }
 }
-writeFileSync(process.argv[3], faxpages.write(left, "mmr"));
+writeFileSync(process.argv[3], faxpages.write(pages.filter(({ form }) => form), "mmr"));
