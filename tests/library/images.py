@@ -31,8 +31,9 @@ with contextlib.suppress(ImportError):
     from PIL import Image, ImageFile, ImageSequence, TiffImagePlugin
 
 
-# Files that libtiff 4.5 cannot read, so that Pillow says.
-NOT_BY_LIBTIFF = ("image-width-twice.tif", "rows-mr-zero-length-run.tif")
+# Files that libtiff 4.5 cannot read, so that Pillow says; in the last three no EOL stands in Group 3 data.
+NOT_BY_LIBTIFF = ("image-width-twice.tif", "rows-mr-zero-length-run.tif", "receiver-counted-bad-rows.tif",
+                  "receiver-counted-no-bad-row.tif", "receiver-says-data-are-not-clean.tif")
 
 
 def pages_of(data: bytes) -> list[faxpages.Page]:
