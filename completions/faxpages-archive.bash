@@ -10,7 +10,7 @@ _faxpages_command_options() {
     faxpages-compare) echo --replace ;;
     faxpages-from-pdf) echo --standard --as-is --coding --width --replace ;;
     faxpages-hylafax) echo --remove ;;
-    faxpages-receive) echo --whole ;;
+    faxpages-receive) echo --whole --mended ;;
     faxpages-sweep) echo --gone ;;
     esac
 }

@@ -35,4 +35,5 @@ complete -c faxpages-from-pdf -l coding -x -a 'mh mr mmr'
 complete -c faxpages-from-pdf -l width -x -a '1728 2048 2432'
 complete -c faxpages-hylafax -l remove
 complete -c faxpages-receive -l whole
+complete -c faxpages-receive -l mended -x
 complete -c faxpages-sweep -l gone

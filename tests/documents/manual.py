@@ -4,6 +4,7 @@ faults of the machine."""
 from __future__ import annotations
 
 import re
+import textwrap
 
 from tests.documents.contracts import read
 
@@ -23,11 +24,12 @@ def section(name: str) -> str:
 
 
 def roff(text: str) -> str:
-    """Text of Markdown as lines of mdoc: each sentence and each piece of code begins a line."""
+    """Text of Markdown as lines of mdoc, of at most 80 letters: each sentence and each piece of code begins a line."""
     text = re.sub(r"\[([^\]]*)\]\([^)]*\)", r"\1", text).strip()
     text = re.sub(r"\s*(\()?`([^`]+)`([).,:;]*)\s*", quoted, text)
     text = re.sub(r"(?<=[.?]) +(?=[A-Z0-9])", "\n", text)
-    return "\n".join(line.strip() for line in text.splitlines() if line.strip())
+    return "\n".join(short for line in text.splitlines() for short in (
+        [line] if line.startswith(".") else textwrap.wrap(line, 80, break_long_words=False, break_on_hyphens=False)))
 
 
 def quoted(code: re.Match[str]) -> str:
