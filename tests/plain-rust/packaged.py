@@ -93,9 +93,9 @@ def without_unsafe_code(room: str) -> Iterator[Claim]:
         file.write(patches(crates_of_debian() + unpacked(room)))
     ways: list[tuple[list[str], set[str]]] = [(["--no-default-features"], set()), ([], {"sse2"})]
     for words, wanted in ways:
-        tree = cargo(room, folder, "tree", "--edges", "features", *words)
+        tree = cargo(room, folder, "tree", "--format", "{p} [{f}]", *words)
         yield f"the crate, {words}", cargo(room, folder, "check", "--quiet", *words), ("", 0)
-        features = set(re.findall(rf'{NAME}-kit-std feature "(\w+)"', tree[0])) - {"default"}
+        features = set(filter(None, ",".join(re.findall(rf"{NAME}-kit-std v[^\[]*\[(.*)\]", tree[0])).split(",")))
         yield f"features of the kit's std, {words}", (features, tree[1]), (wanted, 0)
 
 
