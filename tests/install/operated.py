@@ -34,6 +34,7 @@ SOURCES = {
     "man/faxpages.1": ".Dt FAXPAGES 1\n", "man/faxpages-archive.1": ".Dt ARCHIVE 1\n",
     "man/faxpages-cups.1": ".Dt CUPS 1\n",
     "man/faxpages-recipes.1": ".Dt RECIPES @VERSION@\n", "man/faxpages.3": ".Dt FAXPAGES 3\n",
+    "man/faxpages_reader.3": ".Dt READER 3\n", "include/faxpages_reader.h": "#include <faxpages.h>\n",
     "include/faxpages.h": "int faxpages_version(void);\n", "include/faxpages.pc": "Version: @VERSION@\n",
     "completions/faxpages.bash": "#\n", "completions/_faxpages": "#\n", "completions/faxpages.fish": "#\n",
     "completions/faxpages-archive.bash": "#\n", "completions/_faxpages-archive": "#\n",
