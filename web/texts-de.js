@@ -75,7 +75,8 @@ LANGUAGES.set("de", {
         saveMake: "Speichern",
         cancel: "Abbrechen",
         hint: "PDF und PNG haben alles, was gefunden wird, fehlende Zeilen in Grau; TIFF hat sie in Weiß; PBM hat " +
-            "nur vollständige Seiten. Neben „Drucken“ und „Speichern“ lässt sich sagen, welche Seiten gemeint sind.",
+            "nur vollständige Seiten.",
+        hintPages: "Neben „Drucken“ und „Speichern“ können Sie Seiten wählen.",
         report: "Bericht",
         keys: "Tasten",
         letters: "Einzelne Buchstaben, Ziffern und Zeichen sind Tasten",

@@ -77,7 +77,8 @@ const ENGLISH = {
         saveMake: "Save",
         cancel: "Cancel",
         hint: "PDF and PNG have all that is found, with missing rows grey; TIFF has it with missing rows white; PBM " +
-            "has whole pages only. Beside Print and Save it can be said which pages are meant.",
+            "has whole pages only.",
+        hintPages: "Beside Print and Save you can choose pages.",
         report: "Report",
         keys: "Keys",
         letters: "Single letters, numbers and signs are keys",

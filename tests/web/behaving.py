@@ -197,15 +197,22 @@ def forced(browser: Chromium, _program: str, _room: str) -> Generator[Claim, Non
 def page_first(browser: Chromium, _program: str, _room: str) -> Generator[Claim, None, None]:
     """On a phone, and at 200 percent, the page begins in the first screen: all else is folded, and can be opened."""
     opened(browser)
+    browser.choose("#choose", f"{TOP}/samples/one-mh-page.tif")
+    browser.until("app.faxes.length === 2 && app.faxes.every((fax) => fax.state === 'done')")
+    browser.run("app.show(app.faxes[0])")
     top = 'Math.round(document.getElementById("view").getBoundingClientRect().top + scrollY)'
+    switches = """["#keep", "#language", "#close-all"].filter((it) =>
+        document.querySelector(it).checkVisibility())"""
     for width, height in ((360, 740), (640, 450)):
         browser.resize(width, height)
         browser.until(f"innerWidth === {width} && !document.getElementById('more').open")
         yield f"{width} by {height}: the page begins in the first screen", browser.run(top) < height - 40, True
+        yield f"{width} by {height}: the switches are folded", browser.run(switches), []
         browser.run('document.querySelector("#more > summary").click()')
         browser.until('document.getElementById("findings").checkVisibility()')
         yield f"{width} by {height}: it takes the place of the page", browser.run(
             'document.getElementById("view-part").checkVisibility()'), False
+        yield f"{width} by {height}: the switches", browser.run(switches), ["#keep", "#language", "#close-all"]
         browser.run('document.querySelector("#findings button").click()')
         yield f"{width} by {height}: a finding leads to the page", browser.until(
             'document.getElementById("view-part").checkVisibility() && !document.getElementById("more").open'), True
@@ -213,10 +220,35 @@ def page_first(browser: Chromium, _program: str, _room: str) -> Generator[Claim,
             .filter((it) => it.checkVisibility() && it.scrollHeight > it.clientHeight + 1 &&
                 /auto|scroll/.test(getComputedStyle(it).overflowY)).map((it) => it.id || it.localName)
             .filter((it) => it !== "view")"""), []
+    browser.resize(360, 740)
+    yield from by_fingers(browser)
+    browser.run("while (app.fax) app.close()")
+    yield "before a file is open: the switches", browser.run(switches), ["#keep", "#language"]
+    yield "it is said that nothing leaves", browser.run('document.querySelector(".motto").checkVisibility()'), True
     browser.resize(1280, 900)
+    opened(browser)
     browser.until("document.getElementById('more').open")
     paper = browser.run('getComputedStyle(document.querySelector(".paper")).backgroundColor')
     yield "what is not drawn is not white", paper != "rgb(255, 255, 255)", True
+
+
+def by_fingers(browser: Chromium) -> Generator[Claim, None, None]:
+    """Where fingers leave no room to choose pages, nothing says that they can be chosen."""
+    fields = """["chosen", "hint-pages"].filter((it) => document.getElementById(it).checkVisibility())"""
+    browser.run('document.getElementById("more").open = true')
+    yield "by a mouse: pages are chosen, and it is said", browser.run(fields), ["hint-pages"]
+    browser.run('document.getElementById("more").open = false')
+    yield "the field stands beside Print", browser.run(fields), ["chosen"]
+    browser.call("Emulation.setTouchEmulationEnabled", enabled=True, maxTouchPoints=5)
+    browser.call("Emulation.setDeviceMetricsOverride", width=360, height=740, deviceScaleFactor=1, mobile=True)
+    browser.until("matchMedia('(pointer: coarse)').matches")
+    browser.run('document.getElementById("more").open = true')
+    yield "by fingers: it is not said", browser.run(fields), []
+    browser.run('document.getElementById("more").open = false')
+    yield "by fingers: there is no field", browser.run(fields), []
+    browser.call("Emulation.setTouchEmulationEnabled", enabled=False)
+    browser.resize(360, 740)
+    browser.until("!matchMedia('(pointer: coarse)').matches")
 
 
 def refusals(browser: Browser, _program: str, _room: str) -> Generator[Claim, None, None]:
