@@ -14,6 +14,7 @@ import faxpages
 from tests.archive.converting import files_below
 from tests.archive.drawn import playing
 from tests.archive.keeping import TIME, drawn, put
+from tests.archive.kinds import make_older
 from tests.archive.only import two, words_of
 from tests.archive.room import Part, Room, Rows
 from tests.archive.verifying import turn, verify
@@ -163,10 +164,14 @@ def hurt(table: str, way: str) -> None:
         base.commit()
 
 
-def found_at_each(room: Room, name: str, pattern: bytes, after: int, bit: int) -> int:
+def found_at_each(room: Room, name: str, pattern: bytes, after: int, bit: int, is_older: bool = False) -> int:
     """Turns one bit at each place where a table has these bytes, one at a time: each is found. Answers how many."""
     place = room(name)
     made(place)
+    if is_older:
+        make_older(f"{place}/t.sqlite")
+        with contextlib.closing(sqlite3.connect(f"{place}/t.sqlite")) as base:
+            base.execute("VACUUM")
     with open(f"{place}/t.sqlite", "rb") as file:
         whole = file.read()
     places = [match.start() + after for match in re.finditer(pattern, whole)]
@@ -198,6 +203,8 @@ def other_paths(room: Room, *_given: object) -> None:
     room.claim("the path stands in four tables and their indexes", count >= 8)
     count = found_at_each(room, "damaged-deleted", rb"(?<!\d)3\.tif", 0, 0x04)
     room.claim("so does that of one that was deleted, in two", count >= 4)
+    count = found_at_each(room, "damaged-older", rb"20\.tif", 1, 0x08, is_older=True)
+    room.claim("of version 1.5, which kept no sums, it stands in three", count >= 6)
 
 
 def header(room: Room, *_given: object) -> None:

@@ -162,7 +162,9 @@ class Database:
     def _look(self) -> None:
         """Looks whether the database is whole, and each of its rows as it was written. Damaged: it is not."""
         try:
-            (said,) = self._base.execute("PRAGMA quick_check(1)").fetchone()
+            # A table of an earlier version has no sums, so that its indexes are looked at here.
+            check = "quick_check" if self._format() == _FORMAT else "integrity_check"
+            (said,) = self._base.execute(f"PRAGMA {check}(1)").fetchone()
             damage = [] if said == "ok" else [str(said).replace("\n", " ")]
             if not damage and not _may_be_written(self.name):
                 damage = ["it says that it cannot be written"]

@@ -17,6 +17,8 @@ ENDINGS = (b".tif", b".tiff")
 GOOD, FAULTY, NOT_READ = 0, 1, 3
 # The first version of tables that knows files of other kinds.
 WITH_OTHERS = 3
+# The first one that keeps sums of its rows.
+WITH_SUMS = 4
 # The row of a fax that has other bytes than before, and the same size and time.
 TURNED = Verdict(FAULTY, "Changed")
 
