@@ -699,6 +699,7 @@ class App {
         if (next) {
             fax.last = { page: next.page, row: next.row };
             this.goTo(next.page, next.row);
+            this.view.mark();
         }
     }
 
@@ -712,6 +713,7 @@ class App {
             this.fax.last = { page, row };
         }
         this.goTo(page, row);
+        this.view.mark();
     }
 }
 

@@ -227,13 +227,16 @@ class Sheet {
         return picture;
     }
 
-    /** Marks the rows that are lost: bars beside the paper, as high as these are, so that they hide nothing. */
+    /** Marks the rows that are lost: bars beside the paper, as high as these are, so that they hide nothing. The place
+     * that was gone to last stands out. */
     mark() {
         const bars = this.view.hasMarks ? this.bars() : [];
+        const { last } = this.fax;
         this.paper.querySelectorAll(".mark").forEach((mark) => mark.remove());
         this.paper.append(...bars.map(({ top, bottom, from, to, lost }) => {
             const mark = document.createElement("div");
-            mark.className = "mark";
+            const isLast = last && last.page === this.page && from <= last.row && last.row <= to;
+            mark.className = isLast ? "mark last" : "mark";
             mark.style.top = `${top}px`;
             mark.style.height = `${Math.max(Sheet.LEAST_BAR, bottom - top)}px`;
             mark.title = lost === 1 ? say(TEXTS.findings.row, from + 1)

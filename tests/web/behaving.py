@@ -58,6 +58,8 @@ def keys(browser: Browser, _program: str, _room: str) -> Generator[Claim, None, 
         yield f"{key}: the page", browser.run(
             '[app.page, Number(document.getElementById("page").value)]'), [page, page + 1]
     yield "the page is said", browser.run('document.getElementById("said").textContent'), "Page 3, 1 row missing."
+    yield "the mark that was gone to stands out", browser.run(
+        "[...document.querySelectorAll('.current .mark')].map((it) => it.className)"), ["mark last"]
     browser.run('document.getElementById("thumbs").focus()')
     for key, number, page in (("ArrowUp", 38, 1), ("ArrowDown", 40, 2), ("PageUp", 33, 0), ("PageDown", 34, 2)):
         browser.press(key, number=number)
@@ -76,6 +78,21 @@ def keys(browser: Browser, _program: str, _room: str) -> Generator[Claim, None, 
     wanted = {"choose", "close", "kind", "thumbs", "before", "page", "smaller", "larger", "whole", "wide", "left",
               "right", "view"}
     yield "all is reached by the Tab key", wanted - set(seen), set()
+
+
+def findings_by_keys(browser: Browser, _program: str, _room: str) -> Generator[Claim, None, None]:
+    """Of a page that is wholly in sight, f shows each place where rows are missing."""
+    browser.run("while (app.fax) app.close()")
+    browser.choose("#choose", f"{TOP}/samples/received/over-a-noisy-line.tif")
+    browser.until('app.fax && app.fax.state === "done" && !app.isDue && app.view.fax === app.fax && app.view.form')
+    browser.run("document.activeElement.blur(); app.view.setZoom('whole')")
+    tops = list[object]()
+    for _ in range(3):
+        browser.press("f")
+        tops.append(browser.run("[...document.querySelectorAll('.mark.last')].map((it) => it.offsetTop)"))
+    yield f"one mark stands out, another each time: {tops}", (
+        [len(it) for it in tops if isinstance(it, list)], len({str(it) for it in tops})), ([1, 1, 1], 3)
+    browser.run("while (app.fax) app.close()")
 
 
 def zoom(browser: Browser, _program: str, _room: str) -> Generator[Claim, None, None]:
