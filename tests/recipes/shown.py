@@ -14,7 +14,7 @@ from tests.recipes.room import Room
 
 Box = tuple[float, float, float, float]
 # How many documents are drawn, of how many pages, and into how many cells across and down a page is cut to be compared.
-DOCUMENTS, PAGES, CELLS = 8, 5, 16
+DOCUMENTS, PAGES, CELLS = int(os.environ.get("FAXPAGES_DOCUMENTS", "8")), 5, 16
 # How much darker or lighter a cell may be, of one that is black: a halftone is no grey, and an edge is some pels wide.
 CELL, ALL = 0.2, 0.06
 # Paper, in points: A4, Letter, A5, and what no paper is.
