@@ -380,7 +380,8 @@ const ENGLISH = {
     /** How many files are like that. */
     counted: {
         failed: "{0} cannot be read any more", busy: "{0} being read", other: "{0} no fax", whole: "{0} whole",
-        mended: "{0} mended by the receiver", slight: "{0} readable with missing rows", damaged: "{0} with much missing",
+        mended: "{0} mended by the receiver", slight: "{0} readable with missing rows",
+        damaged: "{0} with much missing",
     },
     announce: { page: "Page {0}, {1}.", closed: "Closed {0}.", opened: "Opened {0}.",
         noneDamaged: "Nothing is missing of any file.",
