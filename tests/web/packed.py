@@ -7,6 +7,7 @@ from __future__ import annotations
 import base64
 import json
 import os
+import random
 import re
 import shutil
 import subprocess
@@ -18,6 +19,7 @@ from tests import TOP, Claim
 from tests.convert.files import get, put
 from tests.documents import meanings
 from tests.finding import found
+from tests.plain import drawing
 from tests.web import bundled, called, faxes, later
 
 TYPED = """import { Faxpages, FaxFault } from "faxpages";
@@ -40,6 +42,8 @@ async function tried(): Promise<void> {
 }
 tried().then(() => Faxpages.TARGETS.indexOf("pbm"));
 """
+# So many files are drawn.
+DRAWN = 300
 # Each line is refused by itself.
 WRONG = """faxpages.convert(new Uint8Array(0), "gif")
 faxpages.list("fax.tif")
@@ -181,4 +185,17 @@ def as_the_program(program: str, folder: str, room: str) -> Generator[Claim, Non
     yield "npm: files were read", len(told["told"]) == len(paths) > 100, True
     for path, said in zip(paths, told["told"]):
         yield from bundled.is_the_programs(program, path, said, "npm")
+    yield from drawn_as_the_program(program, folder, room)
     yield from bundled.claims(program, folder, paths[::bundled.EACH])
+
+
+def drawn_as_the_program(program: str, folder: str, room: str) -> Generator[Claim, None, None]:
+    """The same of drawn and damaged files."""
+    paths = [put(f"{room}/npm-{number}.tif", drawing.draw_file(random.Random(f"npm {number}"), 4)) for number in range(DRAWN)]
+    status, text = run(folder, "node", "said-in-node.mjs", *paths)
+    yield "npm: it runs in Node over drawn files", status, 0
+    said = json.loads(text)["told"]
+    yield "npm: drawn files were read, whole ones and others", (len(said), DRAWN / 4 < sum(
+        "fault" in it["rows"] for it in said) < 3 * DRAWN / 4), (DRAWN, True)
+    for path, it in zip(paths, said):
+        yield from bundled.is_the_programs(program, path, it, "npm")
