@@ -105,7 +105,7 @@ has_cups() {
         cmp cups/faxpages.convs "$1/share/cups/mime/faxpages.convs" &&
         cmp cups/fax.ppd "$1/share/ppd/faxpages/fax.ppd" &&
         diff -r -x __pycache__ cups/faxpages_cups "$1/lib/python3/dist-packages/faxpages_cups" &&
-        gzip -cd "$1/share/man/man1/faxpages-cups.1.gz" | grep -q "version $(cat VERSION)\."
+        gzip -cd "$1/share/man/man1/faxpages-cups.1.gz" | grep -qxF ".Os faxpages $(cat VERSION)"
 }
 
 # The packages of the library: what is in each, on what it stands, and that it is as Debian wants it.

@@ -22,7 +22,7 @@ wheel() {
     claim 'it has faxpages-archive' checks_archive env -u FAXPAGES_LIBRARY "$room/venv/bin/faxpages-archive"
     claim 'an interrupt while faxpages-archive loads modules ends it without a traceback' \
         python3 tests/install/interrupted.py loads "$room/venv/bin/faxpages-archive"
-    claim 'it has its manual page' grep -q "version $(cat VERSION)" "$room/venv/share/man/man1/faxpages-archive.1"
+    claim 'it has its manual page' grep -qxF ".Os faxpages $(cat VERSION)" "$room/venv/share/man/man1/faxpages-archive.1"
     claim 'its module finds its library' says_its_library "$room/venv" "$room/venv/lib/"
     claim 'the line of the README in Python reads a damaged fax in an empty folder' reads_a_damaged_fax "$room/venv"
     if ! python=$(python_with setuptools wheel pip venv); then
@@ -160,7 +160,7 @@ has_what_the_wheel_has() {
     local there
     there=$(echo "$1"/lib/python3.*/site-packages/faxpages) &&
         diff -r -x __pycache__ -x libfaxpages.so.1 python/faxpages "$there" &&
-        grep -q "version $(cat VERSION)" "$1/share/man/man1/faxpages-archive.1"
+        grep -qxF ".Os faxpages $(cat VERSION)" "$1/share/man/man1/faxpages-archive.1"
 }
 
 # Of each sample the module prints what the program does.
