@@ -226,8 +226,9 @@ impl<'a> Fax<'a> {
     /// ```
     pub fn salvaged(&self, page: u32) -> Result<Salvaged, Error> {
         let found = DamagedPage::at(self.file, page).map_err(Error::of_end)?;
-        let form = found.form();
-        Salvaged::read(found.rows(Global).map_err(Error::memory)?, form.width, form.rows)
+        let form = Form::of(page, &found.form());
+        let left = Salvaged::read(found.rows(Global).map_err(Error::memory)?, form.width, form.rows)?;
+        Ok(Salvaged { form: Some(form), ..left })
     }
 
     /// The same, one after another from the top down: each row that is found, and each stretch of rows that are lost.

@@ -2,7 +2,7 @@
 
 use crate::inner::{self, Global, RowsEnd, SalvagedPart};
 use crate::rows::LentRow;
-use crate::{filled, Error, Fault, Row};
+use crate::{filled, Error, Fault, Form, Row};
 use std::fmt;
 
 /// Rows that are lost, one after another.
@@ -38,6 +38,8 @@ pub struct Stretch {
 #[derive(Clone, Debug, PartialEq, Eq, Hash)]
 #[non_exhaustive]
 pub struct Salvaged {
+    /// The form of the page; none of a strip.
+    pub form: Option<Form>,
     /// The pels of a row.
     pub width: u32,
     /// The bytes of its rows, (width + 7) / 8 each, the highest bit first, 1 for black, with zeros after the last pel.
@@ -104,7 +106,7 @@ impl Salvaged {
                 Piece::Row(row) => row.pack_into(&mut packed[row.number as usize * stride..][..stride]),
             }
         }
-        Ok(Salvaged { width, packed, lost, end_mark: false, fault: None })
+        Ok(Salvaged { form: None, width, packed, lost, end_mark: false, fault: None })
     }
 
     /// All that is left of a strip of unknown height.

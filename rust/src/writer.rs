@@ -2,7 +2,7 @@
 
 use crate::inner::{self, put_totals, write_page, Global, Items, WriteFault};
 use crate::strip::code_raster;
-use crate::{Coding, Error, Form, Invalid, USUAL_K};
+use crate::{Coding, Error, Form, Invalid, Page, Salvaged, USUAL_K};
 use std::fmt;
 
 /// The most pages of a file.
@@ -117,6 +117,60 @@ impl Writer {
             strips.push(code_raster(page.strip_form(strip), k, &raster[first..], stride)?);
         }
         self.put(&page, &strips)
+    }
+
+    /// Adds a page that was read, as it is, in this coding or in its own.
+    ///
+    /// # Errors
+    ///
+    /// As [`Writer::add`]: a page that lacks rows has a raster that is too short.
+    ///
+    /// ```
+    /// # use faxpages::{Coding, Fax, Form, Writer};
+    /// # let mut writer = Writer::new(1)?;
+    /// # writer.add(&Form::new(8, 2, Coding::Mh), None, &[0x18, 0xFC], 1)?;
+    /// # let file = writer.finish()?;
+    /// let mut copy = Writer::uncounted()?;
+    /// for page in Fax::new(&file).pages() {
+    ///     copy.add_page(&page?, Coding::Mmr)?;
+    /// }
+    /// let copy = copy.finish()?;
+    /// assert_eq!(Fax::new(&copy).page(0)?.packed, [0x18, 0xFC]);
+    /// # Ok::<(), faxpages::Error>(())
+    /// ```
+    pub fn add_page(&mut self, page: &Page, coding: impl Into<Option<Coding>>) -> Result<(), Error> {
+        self.add_as(page.form, &page.packed, coding.into())
+    }
+
+    /// Adds what is left of a damaged page, as it is, in this coding or in its own: rows that are lost are white. A strip
+    /// becomes a page at 204 by 196 an inch, in MMR if no coding is named.
+    ///
+    /// # Errors
+    ///
+    /// As [`Writer::add`].
+    ///
+    /// ```
+    /// # use faxpages::{Coding, Fax, Form, Writer};
+    /// # let mut writer = Writer::new(1)?;
+    /// # writer.add(&Form::new(8, 20, Coding::Mmr), 1, &[0; 20], 1)?;
+    /// # let mut file = writer.finish()?;
+    /// file[9..14].fill(0); // after the bits of eight white rows
+    /// let mut copy = Writer::uncounted()?;
+    /// copy.add_salvaged(&Fax::new(&file).salvaged(0)?, Coding::Mr)?;
+    /// let copy = copy.finish()?;
+    /// assert_eq!(Fax::new(&copy).rows().count(), 20);
+    /// # Ok::<(), faxpages::Error>(())
+    /// ```
+    pub fn add_salvaged(&mut self, left: &Salvaged, coding: impl Into<Option<Coding>>) -> Result<(), Error> {
+        let form = left.form.unwrap_or_else(|| Form::new(left.width, left.rows().len() as u32, Coding::Mmr));
+        self.add_as(form, &left.packed, coding.into())
+    }
+
+    /// Adds a page of this form and these rows in a coding, or in that of the form. No EOLs stand in MMR.
+    fn add_as(&mut self, form: Form, packed: &[u8], coding: Option<Coding>) -> Result<(), Error> {
+        let coding = coding.unwrap_or(form.coding);
+        let aligned = form.aligned && coding != Coding::Mmr;
+        self.add(&Form { coding, aligned, ..form }, None, packed, form.stride())
     }
 
     /// Appends a page of these strips.
