@@ -64,8 +64,12 @@ def texts(browser: Browser, program: str, room: str) -> Generator[Claim, None, N
         yield f"{name}: the list", first_part(listed), wanted
         yield f"{name}: check", checked, faxes.said(program, "check", path)
         is_damaged = re.search("^fault", wanted + checked, re.M) is not None
-        yield f"{name}: damaged or whole", (fax["lost"] + fax["cut"] > 0, "whole" in fax["verdict"].split(":")[0]), (
-            is_damaged, fax["lost"] == 0)
+        # What a receiver counted as bad is there, and the fax is not called whole.
+        is_bad = " N6 " in faxes.said(program, "check", "--received", path)
+        verdict = fax["verdict"].split(":")[0]
+        yield f"{name}: damaged or whole", (
+            fax["lost"] + fax["cut"] > 0, "whole" in verdict, verdict.startswith("All rows are there")), (
+            is_damaged, fax["lost"] == 0 and not is_bad, fax["lost"] == 0 and is_bad)
         if not fax["refused"]:
             yield f"{name}: rows that are missing", fax["rows"], sum(verdicts.lost_of_pages(program, path).values())
         yield f"{name}: it says which rows are lost", (lost != "") <= is_damaged, True
