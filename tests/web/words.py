@@ -28,7 +28,9 @@ LEFT = """(() => {
         }
         return names.reduce((it, name) => it.replaceAll(name, " "), found).replace(known, " ");
     };
-    const isOther = (element) => element.closest("script, style, noscript, kbd, bdi, #language, #report-text");
+    // While no file is open, nobody can read what stands about one.
+    const isOther = (element) =>
+        element.closest("script, style, noscript, kbd, bdi, #language, #report-text, #fax[hidden]");
     const said = [["title", document.title]];
     for (const element of document.body.querySelectorAll("*")) {
         if (!isOther(element)) {
