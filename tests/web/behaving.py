@@ -19,8 +19,8 @@ from tests.web.browser import Browser
 from tests.web.chromium import Chromium
 
 SAMPLE = f"{TOP}/samples/three-pages.tif"
-# Each text whose contrast with what is below it is less than 4.5 to 1.
-FAINT = """(() => {
+# How light a colour is, what is below an element, and the contrast of two.
+LIGHT = """
     const parse = (text) => text.match(/[\\d.]+/g).map(Number);
     const light = (colour) => colour.slice(0, 3).map((it) => it / 255)
         .map((it) => it <= 0.03928 ? it / 12.92 : ((it + 0.055) / 1.055) ** 2.4)
@@ -32,12 +32,19 @@ FAINT = """(() => {
         }
         return [255, 255, 255];
     };
+    const contrast = (one, other) => (Math.max(one, other) + 0.05) / (Math.min(one, other) + 0.05);"""
+# Each text whose contrast with what is below it is less than 4.5 to 1.
+FAINT = """(() => {""" + LIGHT + """
     return [...document.querySelectorAll("body *")].filter((element) => {
         const hasText = [...element.childNodes].some((it) => it.nodeType === 3 && it.data.trim());
         if (!hasText || !element.checkVisibility() || element.closest("[disabled], .unseen, script")) return false;
-        const [one, other] = [light(parse(getComputedStyle(element).color)), light(below(element))];
-        return (Math.max(one, other) + 0.05) / (Math.min(one, other) + 0.05) < 4.5;
+        return contrast(light(parse(getComputedStyle(element).color)), light(below(element))) < 4.5;
     }).map((it) => it.outerHTML.slice(0, 80));
+})()"""
+# The contrast of a mark with what is beside the paper.
+MARKS = """(() => {""" + LIGHT + """
+    const mark = document.querySelector(".current .mark");
+    return contrast(light(parse(getComputedStyle(mark).backgroundColor)), light(below(app.view.view)));
 })()"""
 
 
@@ -207,6 +214,13 @@ def forced(browser: Chromium, _program: str, _room: str) -> Generator[Claim, Non
     browser.call("Emulation.setEmulatedMedia", features=[{"name": "forced-colors", "value": "active"}])
     browser.until("matchMedia('(forced-colors: active)').matches")
     yield "forced colours: outlines", browser.run(outlines), ["3px", "none", "3px", "none", "1px"]
+    browser.run("app.show(app.faxes[0]); app.goTo(2)")
+    browser.until("document.querySelector('.current .mark')")
+    for scheme in ("light", "dark"):
+        browser.call("Emulation.setEmulatedMedia", features=[
+            {"name": "forced-colors", "value": "active"}, {"name": "prefers-color-scheme", "value": scheme}])
+        browser.until(f"matchMedia('(prefers-color-scheme: {scheme})').matches")
+        yield f"forced colours, {scheme}: marks stand out", browser.run(MARKS) > 4.5, True
     browser.call("Emulation.setEmulatedMedia", features=[])
     browser.run("while (app.fax) app.close()")
 
