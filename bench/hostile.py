@@ -47,11 +47,25 @@ def passes(rows: int) -> bytes:
     return tiff(WIDEST, 2 * rows, MMR, packed((first + white) * rows))
 
 
-def files() -> Iterator[Tuple[str, bytes]]:
-    """The files with their names."""
-    yield "65,535 changes a row, T.4", most_changes(20)
-    yield "65,535 changes a row, T.6", most_changes_again(100)
-    yield "65,535 changes, passed", passes(20)
-    yield "a million rows of one bit", tiff(8, 1000000, MMR, b"\xff" * 125000)
-    yield "a strip of fill", tiff(8, 2, MH, packed("000000000001" + "10011") + bytes(8000000) + b"\x19\x80")
-    yield "a strip of zeros", tiff(8, 2, MH, bytes(8000000))
+def shared(strips: int) -> bytes:
+    """A page of strips of two rows that are all the same 64 KB, without an EOL."""
+    data = b"\xff" * 65536
+    offsets = 8 + len(data)
+    counts = offsets + 4 * strips
+    at = counts + 4 * strips
+    fields = [(256, 4, 1, 1728), (257, 4, 1, 2 * strips), (258, 3, 1, 1), (259, 3, 1, MH), (262, 3, 1, 0), (266, 3, 1, 1),
+              (273, 4, strips, offsets), (277, 3, 1, 1), (278, 4, 1, 2), (279, 4, strips, counts)]
+    directory = struct.pack("<H", len(fields)) + b"".join(struct.pack("<HHII", *field) for field in fields)
+    tables = struct.pack("<I", 8) * strips + struct.pack("<I", len(data)) * strips
+    return b"II" + struct.pack("<HI", 42, at) + data + tables + directory + bytes(4)
+
+
+def files() -> Iterator[Tuple[str, str, bytes]]:
+    """The files with their names, and with the command that reads them."""
+    yield "65,535 changes a row, T.4", "rows", most_changes(20)
+    yield "65,535 changes a row, T.6", "rows", most_changes_again(100)
+    yield "65,535 changes, passed", "rows", passes(20)
+    yield "a million rows of one bit", "rows", tiff(8, 1000000, MMR, b"\xff" * 125000)
+    yield "a strip of fill", "rows", tiff(8, 2, MH, packed("000000000001" + "10011") + bytes(8000000) + b"\x19\x80")
+    yield "a strip of zeros", "rows", tiff(8, 2, MH, bytes(8000000))
+    yield "strips that share 64 KB", "salvage", shared(1000)

@@ -4,6 +4,7 @@ pub mod SourceLemmas
 pub mod TableLemmas
 pub mod ArrayLemmas
 pub mod ZeroLemmas
+pub mod ZeroRunLemmas
 pub mod PeekLemmas
 pub mod PrefixLemmas
 pub mod ReadingLemmas

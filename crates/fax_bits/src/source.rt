@@ -3,13 +3,14 @@ ghost use Rattle.std.specs.Prelude.{◌≡◌, ◌+◌, ◌≤◌, ◌<◌, ◌+
 ghost use Rattle.std.specs.Prelude.{slice_index_or, false, MatchOption, IsTrue, ◌↔◌};
 ghost use Rattle.std.specs.Prelude.{◌^◌, ◌-◌};
 ghost use Rattle.fax_bits.specs.Bits.{bits, IsAllZeros, code_bits, StartsWith};
-ghost use Rattle.fax_bits.specs.views.Source.{HasLeadingZeros, IsTaken, KeepsEnd};
+ghost use Rattle.fax_bits.specs.views.Source.{HasLeadingZeros, IsTaken, KeepsEnd, SkipsShortZeros};
 ghost use Rattle.fax_bits.specs.Bits.{bits_number};
 ghost use Rattle.fax_bits.specs.laws.Codes.{bit_in_byte};
 ghost use Rattle.fax_bits.specs.code.Source.{IsZeroByteAt};
 
 use crate::FillOrder;
 use crate::window::Window;
+use crate::zero_runs::skip_short_zeros;
 use std::marker::Model;
 
 /// A place in the bits of some bytes. Contracts see the bits from there on and the number of bits
@@ -227,6 +228,20 @@ impl<'a> BitSource<'a> {
         // By its fields, so that the window that is gone on with need not stand in memory.
         let window = Window::at_bit_offset(self.bytes, self.order, place);
         self.window = window.fork();
+    }
+
+    /// Advances by some bits, at none of which eleven zeros begin, as an EOL does (T.4, section
+    /// 4.1.2): to where they may, as a word at a time tells, or near the end of the bytes.
+    #[inline(never)]
+    pub fn skip_short_zeros(&mut self)
+        ensures { SkipsShortZeros self.old self.new }
+    {
+        let place = self.window.place();
+        let byte = (place / 8) as usize;
+        let at = skip_short_zeros(self.bytes, byte, self.order);
+        if at > byte {
+            self.skip_to(at as u64 * 8);
+        }
     }
 
     /// What `skip` does past bits that are not loaded.

@@ -11,7 +11,7 @@ use Rattle.fax_files.specs.declared.PageForm.{PageForm}
 use Rattle.fax_files.specs.Page.{strip_form}
 use Rattle.fax_files.specs.views.Writing.{contents}
 use Rattle.fax_files.specs.Directory.{max_file}
-use Rattle.fax_files.specs.Layout.{Written, directory_place, four, page_bytes, with_page}
+use Rattle.fax_files.specs.Layout.{Written, directory_offset, four, page_bytes, with_page}
 use Rattle.fax_c.specs.declared.writing.FaxWritten.{FaxWritten}
 use Rattle.fax_c.specs.views.PageByPage.{IsHeld, IsWriting, file_so_far}
 use Rattle.fax_c.specs.code.AddedPages.{place_of}
@@ -69,7 +69,7 @@ pub page_added : (written : FaxWritten) (old mid new : List ℕ) (form : PageFor
     → IsWriting written × IsHeld written (length old)
     → start ≡ (place_of written).0 → link ≡ (place_of written).1
     → take start mid ≡ (file_so_far written old).bytes → drop start mid ≡ drop start old
-    → page ≡ page_bytes start written.total written.added form strips → directory ≡ directory_place start strips
+    → page ≡ page_bytes start written.total written.added form strips → directory ≡ directory_offset start strips
     → new ≡ take link (take start mid) ++ four directory ++ drop (link + 4) (take start mid) ++ page
     ++ drop (start + length page) mid
     → let next = with_page (file_so_far written old) written.total written.added form strips in

@@ -1,3 +1,4 @@
+pub mod StretchLemmas
 pub mod OutputPartLemmas
 pub mod PackedLenLemmas
 pub mod FormatLemmas

@@ -94,18 +94,18 @@ lost_last (Some stretch) = refl
 module _ (first : RowsFromView) (page row : ℕ) where
   -- rows are passed that are all lost
   pub record AreLostSoFar (now : RowsFromView) (upcoming : ℕ) (lost : Option LostRows) : Type 0 where
-    pub over : List PageRow
-    pub passes : PassesOver first over now
-    pub upcoming_is : upcoming ≡ row + length over
+    pub passed : List PageRow
+    pub passes : PassesOver first passed now
+    pub upcoming_is : upcoming ≡ row + length passed
     pub at : upcoming_row now ≡ upcoming
-    pub none : found_of over ≡ []
-    pub items : (rows : List PageRow) → page_items page row (over ++ rows)
+    pub none : found_of passed ≡ []
+    pub items : (rows : List PageRow) → page_items page row (passed ++ rows)
         ≡ with_lost lost (page_items page upcoming rows)
     pub few : rows_of lost ≤ upcoming
 
   pub none_lost : upcoming_row first ≡ row → row ≤ first.here.form.rows → AreLostSoFar first row None
   none_lost at within = record {
-    over = [];
+    passed = [];
     passes = passes_none first (omega (arith, at, within));
     upcoming_is = omega arith;
     at = at;
@@ -123,9 +123,9 @@ module _ {first now new : RowsFromView} {page row upcoming : ℕ} {lost : Option
       let others : List PageRow = replicate n (Err cause) in
       let len : length others ≡ n = length-replicate n (Err cause) in
       record {
-        over = so_far.over ++ others;
-        passes = passes_on so_far.over others so_far.passes passes;
-        upcoming_is = omega (arith, so_far.upcoming_is, length-append so_far.over others, len);
+        passed = so_far.passed ++ others;
+        passes = passes_on so_far.passed others so_far.passes passes;
+        upcoming_is = omega (arith, so_far.upcoming_is, length-append so_far.passed others, len);
         at = omega (arith, passes.next, so_far.at, len);
         none = rw (found_append, so_far.none) (none_found n cause);
         items = λ rows. rw (append_assoc, so_far.items) (lost_on lost page upcoming n cause rows some);
@@ -136,12 +136,12 @@ module _ {first now new : RowsFromView} {page row upcoming : ℕ} {lost : Option
   pub found_ahead : IsNextFrom now (Some Found) new
       → IsAhead first page row (record { row = upcoming + 1; lost = lost; found = true }) new
   found_ahead (passes, none, ends) = record {
-    over = so_far.over ++ Ok new.last ∷ [];
-    passes = passes_on so_far.over (Ok new.last ∷ []) so_far.passes passes;
-    row_is = omega (arith, so_far.upcoming_is, length_push so_far.over (Ok new.last));
+    passed = so_far.passed ++ Ok new.last ∷ [];
+    passes = passes_on so_far.passed (Ok new.last ∷ []) so_far.passes passes;
+    row_is = omega (arith, so_far.upcoming_is, length_push so_far.passed (Ok new.last));
     lost_are = λ rows _. rw (append_assoc, so_far.items)
         (lost_then lost page upcoming new.last (page_items page (upcoming + 1) rows));
-    found = λ _. (rw (found_append, so_far.none), (so_far.over, new.last, refl), none, ends);
+    found = λ _. (rw (found_append, so_far.none), (so_far.passed, new.last, refl), none, ends);
     ended = λ not. absurd cc;
   }
 
@@ -149,17 +149,17 @@ module _ {first now new : RowsFromView} {page row upcoming : ℕ} {lost : Option
   pub none_ahead : IsNextFrom now None new
       → IsAhead first page row (record { row = upcoming; lost = lost; found = false }) new
   none_ahead (passes, all, are, alone) = record {
-    over = so_far.over ++ [];
-    passes = passes_on so_far.over [] so_far.passes passes;
-    row_is = omega (arith, so_far.upcoming_is, length-append so_far.over []);
+    passed = so_far.passed ++ [];
+    passes = passes_on so_far.passed [] so_far.passes passes;
+    row_is = omega (arith, so_far.upcoming_is, length-append so_far.passed []);
     lost_are = λ rows none. rw (none refl, append_assoc, so_far.items) (lost_last lost);
     found = λ is. absurd cc;
     ended = λ _. (rw append-nil so_far.none, all, alone);
   }
 
 -- rows that end with one that is found stand before others that are lost
-first_of_all : (over later first others : List PageRow) → found_of later ≡ [] → over ++ later ≡ first ++ others
-    → EndsFound first → (more : List PageRow) × (over ≡ first ++ more)
+first_of_all : (passed later first others : List PageRow) → found_of later ≡ [] → passed ++ later ≡ first ++ others
+    → EndsFound first → (more : List PageRow) × (passed ≡ first ++ more)
 first_of_all [] later first others none is (before, row, ends) =
     let some : found_of (before ++ Ok row ∷ []) ++ found_of others ≡ [] = rw (is, found_append, ends) at none in
     absurd (omega (
@@ -169,13 +169,13 @@ first_of_all [] later first others none is (before, row, ends) =
       ap length (found_append before (Ok row ∷ [])),
       length_push (found_of before) row,
     ))
-first_of_all (x ∷ over) later [] others none is ([], row, ends) = cc
-first_of_all (x ∷ over) later [] others none is (y ∷ before, row, ends) = cc
-first_of_all (x ∷ over) later (y ∷ []) others none is ends =
-    let same : x ≡ y = cc is in (over, λ i. same i ∷ over)
-first_of_all (x ∷ over) later (y ∷ z ∷ first) others none is ([], row, ends) = cc
-first_of_all (x ∷ over) later (y ∷ z ∷ first) others none is (v ∷ before, row, ends) =
-    let (more, so) = first_of_all over later (z ∷ first) others none (cc is) (before, row, cc ends) in
+first_of_all (x ∷ passed) later [] others none is ([], row, ends) = cc
+first_of_all (x ∷ passed) later [] others none is (y ∷ before, row, ends) = cc
+first_of_all (x ∷ passed) later (y ∷ []) others none is ends =
+    let same : x ≡ y = cc is in (passed, λ i. same i ∷ passed)
+first_of_all (x ∷ passed) later (y ∷ z ∷ first) others none is ([], row, ends) = cc
+first_of_all (x ∷ passed) later (y ∷ z ∷ first) others none is (v ∷ before, row, ends) =
+    let (more, so) = first_of_all passed later (z ∷ first) others none (cc is) (before, row, cc ends) in
     let same : x ≡ y = cc is in (more, λ i. same i ∷ so i)
 
 -- what stands before others among rows and one more stands among those rows, or is all
@@ -203,31 +203,31 @@ module _ (first : RowsFromView) (page row stride : ℕ) (old : List ℕ) (old_lo
   pub record AreWrittenSoFar (now : RowsFromView) (upcoming count used stretches : ℕ) (out : List ℕ) (lost : List
       FaxLost)
       : Type 0 where
-    pub over : List PageRow
-    pub passes : PassesOver first over now
-    pub upcoming_is : upcoming ≡ row + length over
+    pub passed : List PageRow
+    pub passes : PassesOver first passed now
+    pub upcoming_is : upcoming ≡ row + length passed
     pub at : upcoming_row now ≡ upcoming
-    pub count_is : count ≡ length (found_of over)
-    pub bytes : length (flat_map (padded_row stride) (found_of over)) ≡ used
+    pub count_is : count ≡ length (found_of passed)
+    pub bytes : length (flat_map (padded_row stride) (found_of passed)) ≡ used
     pub used_is : used ≡ count * stride
     pub within : used ≤ length old
-    pub written : out ≡ flat_map (padded_row stride) (found_of over) ++ drop used old
+    pub written : out ≡ flat_map (padded_row stride) (found_of passed) ++ drop used old
     pub closed : List FaxLost
-    pub stretches_are : (rows : List PageRow) → lost_from page row (over ++ rows) ≡ closed
+    pub stretches_are : (rows : List PageRow) → lost_from page row (passed ++ rows) ≡ closed
         ++ lost_from page upcoming rows
     pub stretches_is : stretches ≡ length closed
     pub put : lost ≡ closed ++ drop stretches old_lost
     pub fits : stretches ≤ length old_lost
     pub few : stretches + row ≤ upcoming
-    pub had_room : (one others : List PageRow) → over ≡ one ++ others → others ≢ []
+    pub had_room : (one others : List PageRow) → passed ≡ one ++ others → others ≢ []
         → IsFullAfter page row stride (length old) (length old_lost) one → ⊥
     pub ends : ((used ≡ 0) × (stretches ≡ 0))
-        ⊎ (EndsFound over × (now.reader.before ≡ None) × EndsWithPage now)
+        ⊎ (EndsFound passed × (now.reader.before ≡ None) × EndsWithPage now)
 
   pub nothing_written : upcoming_row first ≡ row → row ≤ first.here.form.rows
       → AreWrittenSoFar first row 0 0 0 old old_lost
   nothing_written at within = record {
-    over = [];
+    passed = [];
     passes = passes_none first (omega (arith, at, within));
     upcoming_is = omega arith;
     at = at;
@@ -253,14 +253,14 @@ module _ (first : RowsFromView) (page row stride : ℕ) (old : List ℕ) (old_lo
 module _ {first now : RowsFromView} {page row stride upcoming count used stretches : ℕ} {old out : List ℕ}
     {old_lost lost : List FaxLost}
     (so_far : AreWrittenSoFar first page row stride old old_lost now upcoming count used stretches out lost) where
-  lost_so_far : lost_from page row so_far.over ≡ so_far.closed
+  lost_so_far : lost_from page row so_far.passed ≡ so_far.closed
   lost_so_far = simp append-nil at (so_far.stretches_are [])
 
   -- where more has room now, it had room after all the rows before
   never_full : HasRoomForBoth (length old) used stride stretches (length old_lost) → (one more : List PageRow)
-      → so_far.over ≡ one ++ more → IsFullAfter page row stride (length old) (length old_lost) one → ⊥
+      → so_far.passed ≡ one ++ more → IsFullAfter page row stride (length old) (length old_lost) one → ⊥
   never_full room one [] is full =
-      let all : so_far.over ≡ one = is ∙ append-nil one in
+      let all : so_far.passed ≡ one = is ∙ append-nil one in
       let same = rw (← all, lost_so_far, ← so_far.count_is, ← so_far.used_is, ← so_far.stretches_is) at full.full in
       omega (arith, same, room)
   never_full room one (x ∷ more) is full = so_far.had_room one (x ∷ more) is (λ none. cc) full
@@ -269,16 +269,16 @@ module _ {first now : RowsFromView} {page row stride upcoming count used stretch
       (len_lost : length lost ≡ length old_lost) (room : stretches < length old_lost) (to : ℕ)
       (new_lost : List FaxLost) (stretch : IsStretchPut ahead.lost lost stretches to new_lost) where
     abbrev its_over : List PageRow
-    its_over = so_far.over ++ next.over
+    its_over = so_far.passed ++ next.passed
 
     its_passes : PassesOver first its_over new
-    its_passes = passes_on so_far.over next.over so_far.passes next.passes
+    its_passes = passes_on so_far.passed next.passed so_far.passes next.passes
 
     abbrev its_closed : List FaxLost
     its_closed = so_far.closed ++ stretches_of ahead.lost
 
     upcoming_next : ahead.row ≡ row + length its_over
-    upcoming_next = omega (arith, next.row_is, so_far.upcoming_is, length-append so_far.over next.over)
+    upcoming_next = omega (arith, next.row_is, so_far.upcoming_is, length-append so_far.passed next.passed)
 
     its_lost : (rows : List PageRow) → (ahead.found ≡ false → rows ≡ [])
         → lost_from page row (its_over ++ rows) ≡ its_closed ++ lost_from page ahead.row rows
@@ -298,12 +298,12 @@ module _ {first now : RowsFromView} {page row stride upcoming count used stretch
     one_more is has_room width fits len_out end new_out (end_is, inside, new_is) =
         let (alone, ends, none, with_page) = next.found is in
         let short : packed_len (length new.last) ≤ stride = rw (width, its_passes.same_here) fits in
-        let front = flat_map (padded_row stride) (found_of so_far.over) in
-        let rows_are : found_of its_over ≡ found_of so_far.over ++ new.last ∷ [] = rw (found_append, alone) in
+        let front = flat_map (padded_row stride) (found_of so_far.passed) in
+        let rows_are : found_of its_over ≡ found_of so_far.passed ++ new.last ∷ [] = rw (found_append, alone) in
         let bytes_are : flat_map (padded_row stride) (found_of its_over) ≡ front ++ padded_row stride new.last =
-        rw rows_are (padded_push stride (found_of so_far.over) new.last) in
+        rw rows_are (padded_push stride (found_of so_far.passed) new.last) in
         record {
-          over = its_over;
+          passed = its_over;
           passes = its_passes;
           upcoming_is = upcoming_next;
           at = omega (arith, next.passes.next, next.row_is, so_far.at);
@@ -323,23 +323,23 @@ module _ {first now : RowsFromView} {page row stride upcoming count used stretch
           ends = inr (all_end ends, none, with_page);
         }
       where
-        ends_some : EndsFound next.over → 0 < length next.over
+        ends_some : EndsFound next.passed → 0 < length next.passed
         ends_some (before, row, is) = rw (is, length_push) (omega arith)
 
-        all_end : EndsFound next.over → EndsFound its_over
-        all_end (before, pels, is) = (so_far.over ++ before, pels, rw (is, append_assoc) refl)
+        all_end : EndsFound next.passed → EndsFound its_over
+        all_end (before, pels, is) = (so_far.passed ++ before, pels, rw (is, append_assoc) refl)
 
         -- of the rows before the last one none but those of before end with one that is found
-        had : found_of next.over ≡ new.last ∷ [] → EndsFound next.over → (one others : List PageRow)
+        had : found_of next.passed ≡ new.last ∷ [] → EndsFound next.passed → (one others : List PageRow)
             → its_over ≡ one ++ others → others ≢ []
             → IsFullAfter page row stride (length old) (length old_lost) one → ⊥
         had alone (before, pels, is) one others all some full =
             let only : found_of before ++ pels ∷ [] ≡ new.last ∷ [] = rw (is, found_append) at alone in
             let none = (same_from_push (found_of before) [] pels new.last only).0 in
-            let split : (so_far.over ++ before) ++ Ok pels ∷ [] ≡ one ++ others =
-            append_assoc so_far.over before (Ok pels ∷ []) ∙ ap (λ l. so_far.over ++ l) (sym is) ∙ all in
-            let (rest, so) = all_but_last (so_far.over ++ before) one others (Ok pels) split some in
-            let (more, within) = first_of_all so_far.over before one rest none so full.found in
+            let split : (so_far.passed ++ before) ++ Ok pels ∷ [] ≡ one ++ others =
+            append_assoc so_far.passed before (Ok pels ∷ []) ∙ ap (λ l. so_far.passed ++ l) (sym is) ∙ all in
+            let (rest, so) = all_but_last (so_far.passed ++ before) one others (Ok pels) split some in
+            let (more, within) = first_of_all so_far.passed before one rest none so full.found in
             never_full has_room one more within full
 
     -- no other row is left
@@ -350,7 +350,7 @@ module _ {first now : RowsFromView} {page row stride upcoming count used stretch
         out new_lost
     ended is has_room =
         let (none, all, alone) = next.ended is in
-        let found_are : found_of its_over ≡ found_of so_far.over = rw (found_append, none, append-nil) in
+        let found_are : found_of its_over ≡ found_of so_far.passed = rw (found_append, none, append-nil) in
         let lost_are : lost_from page row its_over ≡ its_closed = simp append-nil at (its_lost [] (λ _. refl)) in
         record {
           same_file = its_passes.same_file;
@@ -363,7 +363,7 @@ module _ {first now : RowsFromView} {page row stride upcoming count used stretch
             its_over ++ rest,
             its_passes.followed rest remaining,
             record {
-              over = its_over;
+              passed = its_over;
               split = refl;
               count = rw found_are so_far.count_is;
               used = rw lost_are its_put.1;
@@ -373,7 +373,7 @@ module _ {first now : RowsFromView} {page row stride upcoming count used stretch
               stops = (
                 alone rest remaining,
                 λ one others is_all full.
-                    let (more, within) = first_of_all so_far.over next.over one others none is_all full.found in
+                    let (more, within) = first_of_all so_far.passed next.passed one others none is_all full.found in
                     never_full has_room one more within full,
               );
             },
@@ -397,10 +397,10 @@ module _ {first now : RowsFromView} {page row stride upcoming count used stretch
           ends = inr none;
           with_page = with_page;
           written = λ rest remaining. (
-            so_far.over ++ rest,
+            so_far.passed ++ rest,
             so_far.passes.followed rest remaining,
             record {
-              over = so_far.over;
+              passed = so_far.passed;
               split = refl;
               count = so_far.count_is;
               used = rw lost_so_far so_far.stretches_is;

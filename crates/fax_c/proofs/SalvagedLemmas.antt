@@ -146,12 +146,12 @@ module _ {remaining now : RowsView} {all : List PageRow} {page stride row at cou
       mul_le : (a b k : ℕ) → a ≤ b → a * k ≤ b * k
       mul_le a b k le = grind (arith, le)
 
-  module _ {new : RowsView} (over : List PageRow) (n : ℕ) (passes : PassesRows now over new)
-      (len_over : length over ≡ n) where
+  module _ {new : RowsView} (passed : List PageRow) (n : ℕ) (passes : PassesRows now passed new)
+      (len_over : length passed ≡ n) where
     row_next : new.row ≡ row + n
     row_next = omega (arith, passes.next, so_far.row_is, len_over)
 
-    done_next : (so_far.done ++ over) ++ drop (row + n) all ≡ all
+    done_next : (so_far.done ++ passed) ++ drop (row + n) all ≡ all
     done_next =
         let here = rw (so_far.row_is, row_next) at (passes.rows_are all (rw so_far.same_its so_far.are)) in
         rw (append_assoc, ← here) so_far.done_is
@@ -161,18 +161,18 @@ module _ {remaining now : RowsView} {all : List PageRow} {page stride row at cou
 
     -- these rows are written too
     more : (same_its : new.its ≡ now.its) (same_rows : new.rows ≡ now.rows) (same_width : new.width ≡ now.width)
-        (to : ℕ) (new_out : List ℕ) → length (flat_map (left_row stride) over) ≡ n * stride
-        → IsPutAt (flat_map (left_row stride) over) out at (Some to) new_out
+        (to : ℕ) (new_out : List ℕ) → length (flat_map (left_row stride) passed) ≡ n * stride
+        → IsPutAt (flat_map (left_row stride) passed) out at (Some to) new_out
         → (count' : ℕ) (ended' : Option LostRows) (closed : List FaxLost) (new_lost : List FaxLost)
         → count' ≡ length closed → AreLostPut closed old_lost new_lost
-        → ((rows : List PageRow) → lost_of (page_items page 0 ((so_far.done ++ over) ++ rows))
+        → ((rows : List PageRow) → lost_of (page_items page 0 ((so_far.done ++ passed) ++ rows))
         ≡ closed ++ lost_of (with_lost ended' (page_items page (row + n) rows)))
         → count' + open_of ended' ≤ row + n → rows_of ended' ≤ row + n
         → AreLeftSoFar remaining all page stride old old_lost new (row + n) to count' ended' new_out new_lost
     more same_its same_rows same_width to new_out bytes (to_is, inside, is) count' ended' closed new_lost count_is put
         stretches few open_few =
         let front = flat_map (left_row stride) so_far.done in
-        let all_bytes = flat_map-append (left_row stride) so_far.done over in
+        let all_bytes = flat_map-append (left_row stride) so_far.done passed in
         record {
           same_its = same_its ∙ so_far.same_its;
           same_rows = same_rows ∙ so_far.same_rows;
@@ -181,11 +181,11 @@ module _ {remaining now : RowsView} {all : List PageRow} {page stride row at cou
           row_is = row_next;
           within = within_next;
           at_is = omega (arith, to_is, bytes, so_far.at_is);
-          done = so_far.done ++ over;
+          done = so_far.done ++ passed;
           done_is = done_next;
-          len = omega (arith, length-append so_far.done over, so_far.len, len_over);
+          len = omega (arith, length-append so_far.done passed, so_far.len, len_over);
           bytes = rw (all_bytes, length-append, so_far.bytes) (sym to_is);
-          written = rw all_bytes (more_put front old out (flat_map (left_row stride) over) new_out at to so_far.bytes
+          written = rw all_bytes (more_put front old out (flat_map (left_row stride) passed) new_out at to so_far.bytes
               so_far.written to_is is);
           closed = closed;
           count_is = count_is;
@@ -202,16 +202,17 @@ module _ {remaining now : RowsView} {all : List PageRow} {page stride row at cou
         → IsStretchPut ended lost count count' new_lost
         → AreLeftSoFar remaining all page stride old old_lost new (row + 1) to count' None new_out new_lost
     found_more next short to count' new_out new_lost put ends =
-        let over : List PageRow = Ok new.last ∷ [] in
-        let alone : flat_map (left_row stride) over ≡ padded_row stride new.last = append-nil _ in
+        let passed : List PageRow = Ok new.last ∷ [] in
+        let alone : flat_map (left_row stride) passed ≡ padded_row stride new.last = append-nil _ in
         let closed = ended_put so_far.closed old_lost lost new_lost ended count count' so_far.put same_len
         so_far.count_is ends in
         let ends_so = λ (rows : List PageRow). lost_then ended page row new.last (page_items page (row + 1) rows) in
-        let bytes : length (flat_map (left_row stride) over) ≡ 1 * stride =
+        let bytes : length (flat_map (left_row stride) passed) ≡ 1 * stride =
         rw (alone, fills_stride stride new.last short) (omega arith) in
-        more over 1 next.passes refl next.same_its next.same_rows next.same_width to new_out bytes (rw alone put) count'
+        more passed 1 next.passes refl next.same_its next.same_rows next.same_width to new_out bytes (rw alone put)
+          count'
         None (so_far.closed ++ stretches_of ended) new_lost closed.1 closed.0
-        (λ rows. rw (append_assoc so_far.done over rows, so_far.stretches, ends_so rows, append_assoc))
+        (λ rows. rw (append_assoc so_far.done passed rows, so_far.stretches, ends_so rows, append_assoc))
         (omega (arith, closed.2, so_far.few)) (omega arith)
 
     -- rows that are lost
@@ -221,9 +222,9 @@ module _ {remaining now : RowsView} {all : List PageRow} {page stride row at cou
         cause))
         new_out lost
     lost_more n cause next to new_out put =
-        let over : List PageRow = replicate n (Err cause) in
+        let passed : List PageRow = replicate n (Err cause) in
         let lost_are = left_lost stride n cause in
-        more over n next.passes.1 (length-replicate n (Err cause)) next.same_its next.same_rows next.same_width to
+        more passed n next.passes.1 (length-replicate n (Err cause)) next.same_its next.same_rows next.same_width to
         new_out (rw (lost_are, length-replicate)) (rw lost_are put) count (Some (longer ended page row n cause))
         so_far.closed lost so_far.count_is so_far.put
         (λ rows. rw (append_assoc, so_far.stretches, lost_on ended page row n cause rows next.passes.0))

@@ -10,4 +10,5 @@ pub mod Checked
 pub mod ConversionTold
 pub mod views
 pub mod code
+pub mod laws
 pub mod SalvagedRaster

@@ -13,6 +13,7 @@ mod file_report;
 mod fill;
 mod format;
 mod forms;
+pub mod laws;
 mod library_version;
 mod names;
 mod page_raster;

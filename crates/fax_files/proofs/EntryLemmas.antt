@@ -23,7 +23,7 @@ pub value_inside : (endian : Endian) (file : List ℕ) (entry : Entry) (i offset
     → offset ≡ values_offset endian file entry
     → len ≡ value_len entry
     → IsTrue (has_integers endian file entry (i + 1)) → offset + i * len + len ≤ length file
-value_inside endian file entry i offset len place_is len_is there = grind (arith, holds_integers)
+value_inside endian file entry i offset len offset_is len_is there = grind (arith, holds_integers)
 
 -- an entry with n values has each number of values up to n
 pub fewer_integers : (endian : Endian) (file : List ℕ) (entry : Entry) (m n : ℕ) → m ≤ n

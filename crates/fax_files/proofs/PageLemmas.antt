@@ -9,7 +9,7 @@ use Rattle.fax_files.specs.Page.{strip_bytes}
 use Rattle.fax_files.specs.code.Steps.{bytes_at}
 use Rattle.fax_files.specs.views.Page.{strip_count}
 use Rattle.fax_files.specs.views.Tiff.{TiffDirectory, bytes_of, inside_of}
-use Rattle.fax_files.specs.code.Tiff.{AreStripPlaces}
+use Rattle.fax_files.specs.code.Tiff.{AreStripEntries}
 
 -- a page's strip begins before the page's last row
 pub strip_begins_before : (rows rows_per_strip s : ℕ) → 1 ≤ rows_per_strip → s < strip_count rows rows_per_strip
@@ -18,7 +18,7 @@ strip_begins_before rows rows_per_strip s some below = grind arith
 
 -- where the bytes of a strip are looked for
 pub strip_place : (directory : TiffDirectory) (count s : ℕ) (offsets counts : Entry)
-    → AreStripPlaces directory count offsets counts
+    → AreStripEntries directory count offsets counts
     → bytes_of directory s
     ≡ bytes_at directory.file (value_at directory.endian directory.file offsets s)
     (value_at directory.endian directory.file counts s)
@@ -36,13 +36,13 @@ pub bytes_outside : (file : List ℕ) (offset len : ℕ) → is_inside file offs
 bytes_outside file offset len outside = rw outside refl
 
 -- and where the bytes of one that may lie partly outside are
-pub inside_place : (directory : TiffDirectory) (count s : ℕ) (offsets counts : Entry)
-    → AreStripPlaces directory count offsets counts
+pub inside_offset : (directory : TiffDirectory) (count s : ℕ) (offsets counts : Entry)
+    → AreStripEntries directory count offsets counts
     → inside_of directory s
     ≡ take (value_at directory.endian directory.file counts s)
     (drop (value_at directory.endian directory.file offsets s) directory.file)
 unfolding inside_bytes
-inside_place directory count s offsets counts are = rw (inside_bytes, are.offsets_are, are.counts_are) refl
+inside_offset directory count s offsets counts are = rw (inside_bytes, are.offsets_are, are.counts_are) refl
 
 -- so many bytes at most, or those that are left
 take_at_most : (len count : ℕ) (rest : List ℕ) → count ≡ min len (length rest) → take count rest ≡ take len rest

@@ -12,28 +12,28 @@ use Rattle.fax_files.specs.declared.PageForm.{PageForm}
 use Rattle.fax_files.specs.declared.written.Layout.{Layout}
 use Rattle.fax_files.specs.views.Page.{IsPageForm}
 use Rattle.fax_files.specs.Directory.{max_file}
-use Rattle.fax_files.specs.Layout.{to_link, four, offsets_from, one_or_place, directory_place, page_bytes, Written}
+use Rattle.fax_files.specs.Layout.{to_link, four, offsets_from, one_or_offset, directory_offset, page_bytes, Written}
 use Rattle.fax_files.specs.Layout.{with_page}
 use Rattle.fax_files.specs.code.PageParts.{to_offsets, lengths_of, joined_strips, fields_of, fields_bytes, values_bytes}
 use Rattle.fax_files.specs.code.PageParts.{with_four_at}
 use Rattle.fax_files.specs.laws.TiffFiles.{IsWritable}
 use Rattle.fax_files.specs.views.Writing.{contents}
 use Rattle.fax_files.specs.code.Writing.{IsLayout, laid_out_fields, tail_bytes, page_end}
-use Rattle.fax_files.proofs.FilePlaceLemmas.{length-patched}
+use Rattle.fax_files.proofs.FileOffsetLemmas.{length-patched}
 use Rattle.fax_files.proofs.WritingLemmas.{length-contents}
 use Rattle.fax_files.proofs.WrittenStripLemmas.{length-offsets_from, length-lengths_of}
 use Rattle.fax_files.proofs.WrittenFileLemmas.{length-with_page}
 
 -- the values of the entries of strips
 offsets_value : (start offset n : ℕ) (strips : List (List ℕ)) → length strips ≡ n
-    → (if n == 1 then start else offset) ≡ one_or_place (offsets_from start strips) offset
+    → (if n == 1 then start else offset) ≡ one_or_offset (offsets_from start strips) offset
 offsets_value start offset n [] count = grind arith
 offsets_value start offset n (strip ∷ []) count = grind arith
 offsets_value start offset n (strip ∷ next ∷ strips) count = grind arith
 
 lengths_value : (start end offset n : ℕ) (strips : List (List ℕ)) → length strips ≡ n
     → end ≡ start + length (joined_strips strips)
-    → (if n == 1 then (end - start) else offset) ≡ one_or_place (lengths_of strips) offset
+    → (if n == 1 then (end - start) else offset) ≡ one_or_offset (lengths_of strips) offset
 lengths_value start end offset n [] count end_is = grind arith
 lengths_value start end offset n (strip ∷ []) count end_is = grind (arith, length-append)
 lengths_value start end offset n (strip ∷ next ∷ strips) count end_is = grind (arith, ne_eqb)
@@ -47,8 +47,8 @@ regrouped : (j r f z v : List ℕ) → j ++ (r ++ (f ++ z ++ v)) ≡ j ++ r ++ f
 regrouped j r f z v = simp append_assoc
 
 -- an answer that is not that the file is too large, where it is not
-pub not_too_large : (answer : Result (Unit {0}) WriteFault) (n : ℕ) → (answer ≡ Err OutputTooLarge → ⊥) → n ≤ max_file
-    → (answer ≡ Err OutputTooLarge) ↔ (max_file < n)
+pub not_too_large : {A : Type 0} (answer : Result A WriteFault) (n : ℕ) → (answer ≡ Err OutputTooLarge → ⊥)
+    → n ≤ max_file → (answer ≡ Err OutputTooLarge) ↔ (max_file < n)
 not_too_large answer n other short = (λ e. absurd (other e), λ long. absurd (omega (arith, long, short)))
 
 -- a file, and a page that is added to it
@@ -67,7 +67,7 @@ module _ (bytes : List ℕ) (link total added end : ℕ) (form : PageForm) (stri
   count : length (contents strips) ≡ form.strips
   count = length-contents strips ∙ counted
 
-  new_length : length new.bytes ≡ directory_place (length bytes) (contents strips) + to_offsets
+  new_length : length new.bytes ≡ directory_offset (length bytes) (contents strips) + to_offsets
       + 2 * (if nat_le (length (contents strips)) 1 then 0 else (4 * length (contents strips)))
   new_length = length-with_page old total added (record { form = form; strips = contents strips }) inside writable
 
@@ -88,11 +88,11 @@ module _ (bytes : List ℕ) (link total added end : ℕ) (form : PageForm) (stri
     is_short found is short = omega (arith, size, is, short)
 
     module _ (at : Layout) (laid : IsLayout at form.strips (length bytes) end added total) where
-      offset : at.directory ≡ directory_place (length bytes) (contents strips)
+      offset : at.directory ≡ directory_offset (length bytes) (contents strips)
       offset = laid.directory_is ∙ ap (λ (e : ℕ). e + e % 2) end_is
 
       fields_are : laid_out_fields at form
-          ≡ fields_of (directory_place (length bytes) (contents strips)) total added form
+          ≡ fields_of (directory_offset (length bytes) (contents strips)) total added form
           (offsets_from (length bytes) (contents strips))
           (lengths_of (contents strips))
       fields_are = grind (arith, offsets_value, count, lengths_value, length-offsets_from, length-lengths_of)
@@ -102,7 +102,7 @@ module _ (bytes : List ℕ) (link total added end : ℕ) (form : PageForm) (stri
           → joined_strips (contents strips) ++ tail ≡ page_bytes (length bytes) total added form (contents strips)
       unfolding page_bytes
       page_is tail tail_is =
-          let q = directory_place (length bytes) (contents strips) in
+          let q = directory_offset (length bytes) (contents strips) in
           let all = joined_strips (contents strips) in
           let fields = fields_of q total added form (offsets_from (length bytes) (contents strips))
           (lengths_of (contents strips)) in

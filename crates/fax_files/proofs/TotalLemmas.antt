@@ -14,9 +14,9 @@ use Rattle.fax_files.specs.declared.Endian.TheVariants.{Little}
 use Rattle.fax_page.specs.declared.Coding.{Coding}
 use Rattle.fax_page.specs.declared.Coding.TheVariants.{Mh, Mr, Mmr}
 use Rattle.fax_files.specs.Directory.{number_at}
-use Rattle.fax_files.specs.Layout.{to_link, two, four, directory_place, page_bytes, Written, with_page, with_pages}
+use Rattle.fax_files.specs.Layout.{to_link, two, four, directory_offset, page_bytes, Written, with_page, with_pages}
 use Rattle.fax_files.specs.Layout.{WrittenPage, WrittenField}
-use Rattle.fax_files.specs.Layout.{field_bytes, field_of, fields_with, options_field, offsets_from, one_or_place}
+use Rattle.fax_files.specs.Layout.{field_bytes, field_of, fields_with, options_field, offsets_from, one_or_offset}
 use Rattle.fax_files.specs.Layout.{array_bytes, file_of}
 use Rattle.fax_files.specs.views.PagesSoFar.{HasAdded}
 use Rattle.fax_files.specs.views.Writing.{Writing, empty_file}
@@ -26,11 +26,11 @@ use Rattle.fax_files.specs.laws.TiffFiles.{TotalsAreTold}
 
 -- where the directory of a page stands, which is added to a file after the rest of the page before,
 -- and its link
-abbrev place_of : ℕ → List ℕ → WrittenPage → ℕ
-place_of link rest page = directory_place (link + 4 + length rest) page.strips
+abbrev offset_of : ℕ → List ℕ → WrittenPage → ℕ
+offset_of link rest page = directory_offset (link + 4 + length rest) page.strips
 
 abbrev link_of : ℕ → List ℕ → WrittenPage → ℕ
-link_of link rest page = place_of link rest page + to_link
+link_of link rest page = offset_of link rest page + to_link
 
 -- what is written of a page, with its total last in its directory, and the next offset after that
 record PageParts (link k : ℕ) (rest : List ℕ) (page : WrittenPage) : Type 0 where
@@ -38,7 +38,7 @@ record PageParts (link k : ℕ) (rest : List ℕ) (page : WrittenPage) : Type 0 
   tail : List ℕ
   is : (total : ℕ) → page_bytes (link + 4 + length rest) total k page.form page.strips
       ≡ head ++ (two total ++ (four 0 ++ tail))
-  len : length (four (place_of link rest page) ++ (rest ++ head)) + link + 2 ≡ link_of link rest page
+  len : length (four (offset_of link rest page) ++ (rest ++ head)) + link + 2 ≡ link_of link rest page
 
 joined : (A N E M T Z V : List ℕ) → A ++ (N ++ (E ++ (M ++ T))) ++ Z ++ V ≡ (A ++ (N ++ (E ++ M))) ++ (T ++ (Z ++ V))
 joined A N E M T Z V = grind (arith, append_assoc)
@@ -58,12 +58,12 @@ page_parts link k rest page =
     let all = flat_map (λ strip. strip) page.strips in
     let offsets = offsets_from start page.strips in
     let lengths = map length page.strips in
-    let q = directory_place start page.strips in
+    let q = directory_offset start page.strips in
     let offset = q + (to_link + 20) in
     let A : List ℕ = all ++ replicate ((start + length all) % 2) 0 in
     let E : List WrittenField = take 15 (fields_with q 0 k form
-    (field_of 273 4 (length offsets) (four (one_or_place offsets offset)))
-    (field_of 279 4 (length lengths) (four (one_or_place lengths (offset + 4 * length lengths))))) in
+    (field_of 273 4 (length offsets) (four (one_or_offset offsets offset)))
+    (field_of 279 4 (length lengths) (four (one_or_offset lengths (offset + 4 * length lengths))))) in
     let M : List ℕ = two 297 ++ two 3 ++ four 2 ++ two k in
     let V : List ℕ = four form.x.0 ++ four form.x.1 ++ (four form.y.0 ++ four form.y.1)
     ++ array_bytes offsets ++ array_bytes lengths in
@@ -82,7 +82,7 @@ page_parts link k rest page =
 
 -- what stands from a link to the total of the page to which it leads
 abbrev front_of : ℕ → ℕ → List ℕ → WrittenPage → List ℕ
-front_of link k rest page = four (place_of link rest page) ++ (rest ++ (page_parts link k rest page).head)
+front_of link k rest page = four (offset_of link rest page) ++ (rest ++ (page_parts link k rest page).head)
 
 -- a file that is written
 abbrev file_at : List ℕ → ℕ → Written
@@ -129,7 +129,7 @@ written_are x rest link total k (page ∷ pages) is =
     let before : take link b ≡ x = take_at x (four 0 ++ rest) link is in
     let after : drop (link + 4) b ≡ rest =
     ap (λ n. drop (n + 4) b) (sym is) ∙ drop-append-add x (four 0 ++ rest) 4 in
-    let whole : x ++ four (place_of link rest page) ++ rest ++ (parts.head ++ (two total ++ (four 0 ++ parts.tail)))
+    let whole : x ++ four (offset_of link rest page) ++ rest ++ (parts.head ++ (two total ++ (four 0 ++ parts.tail)))
     ≡ (x ++ front ++ two total) ++ (four 0 ++ parts.tail) = grind (arith, append_assoc) in
     rw (len, before, after, parts.is total) (
     ap (λ (l : List ℕ). with_pages (file_at l next) total (k + 1) pages) whole
@@ -177,8 +177,8 @@ pages_told x rest link T t k (page ∷ pages) is small =
     let len : (total : ℕ) → length (y ++ two total ++ more.bytes) ≡ next + length more.bytes =
     λ total. omega (arith, (up total).1, length-append (y ++ two total) more.bytes) in
     let W_len : length W ≡ next + length more.bytes = ap (λ (l : List ℕ). length l) (whole t more.bytes) ∙ len t in
-    let here : number_at Little 4 W link ≡ place_of link rest page =
-    number_here W link (place_of link rest page) (rest ++ parts.head ++ (two t ++ more.bytes))
+    let here : number_at Little 4 W link ≡ offset_of link rest page =
+    number_here W link (offset_of link rest page) (rest ++ parts.head ++ (two t ++ more.bytes))
     (drop_at x (front ++ (two t ++ more.bytes)) link is) (omega (arith, small, W_len)) in
     let next_of : next_link W link ≡ next = ap (λ n. n + to_link) here in
     let after = λ (total : ℕ). pages_told (y ++ two total) parts.tail next T t (k + 1) pages (up total).1

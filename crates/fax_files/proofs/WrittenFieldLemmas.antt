@@ -14,7 +14,7 @@ use Rattle.fax_files.specs.views.Page.{IsGoodRational}
 use Rattle.fax_files.specs.Page.{rational_of}
 use Rattle.fax_files.specs.Layout.{two, four, WrittenField, field_bytes}
 use Rattle.fax_files.specs.code.PageParts.{long_field, short_field, rational_field, rational_bytes}
-use Rattle.fax_files.proofs.FilePlaceLemmas.{HasBytesAt, at_place, at_left, at_right, at_inside, number_there}
+use Rattle.fax_files.proofs.FileOffsetLemmas.{HasBytesAt, at_offset, at_left, at_right, at_inside, number_there}
 use Rattle.fax_files.specs.declared.tags.TheConstants as Tags
 
 -- a field's numbers fit their bytes
@@ -89,7 +89,7 @@ unfolding entries_at
 entries_there file p [] fit h = (refl, tt)
 entries_there file p (written ∷ fields) fit h =
     let here = at_left (field_bytes written) (flat_map field_bytes fields) h in
-    let after = at_place (ap (λ (n : ℕ). p + n) (length-field_bytes written fit.0))
+    let after = at_offset (ap (λ (n : ℕ). p + n) (length-field_bytes written fit.0))
     (at_right (field_bytes written) (flat_map field_bytes fields) h) in
     let rest = entries_there file (p + 12) fields fit.1 after in
     (rw (entry_there file p written fit.0 here, rest.0) refl, (value_there file p written here, rest.1))

@@ -13,17 +13,17 @@ use Rattle.fax_files.specs.Directory.{is_inside, number_at, is_directory, next_o
 use Rattle.fax_files.specs.Directory.{Header, header}
 use Rattle.fax_files.specs.laws.TiffFiles.{IsChainFrom}
 use Rattle.fax_files.proofs.ChainLaws.{has_one_chain}
-use Rattle.fax_files.specs.Layout.{to_link, two, four, offsets_from, directory_place, page_bytes, Written, with_page}
+use Rattle.fax_files.specs.Layout.{to_link, two, four, offsets_from, directory_offset, page_bytes, Written, with_page}
 use Rattle.fax_files.specs.Layout.{with_pages}
 use Rattle.fax_files.specs.Layout.{WrittenPage, file_of, array_bytes}
 use Rattle.fax_files.specs.code.PageParts.{to_x, to_offsets, lengths_of, fields_bytes, values_bytes, joined_strips}
 use Rattle.fax_files.specs.views.Writing.{empty_file}
 use Rattle.fax_files.specs.laws.TiffFiles.{IsWritable, AreWritable, IsReadAt, AppendedPagesAreRead, WrittenFilesAreRead}
-use Rattle.fax_files.proofs.FilePlaceLemmas.{HasBytesAt, at_place, at_left, at_right, at_inside, at_drop, at_start}
-use Rattle.fax_files.proofs.FilePlaceLemmas.{at_slice, length-slice}
-use Rattle.fax_files.proofs.FilePlaceLemmas.{slice_there, at_end, at_grown, at_patch, at_before_patch, at_after_patch}
-use Rattle.fax_files.proofs.FilePlaceLemmas.{length-patched}
-use Rattle.fax_files.proofs.FilePlaceLemmas.{number_there}
+use Rattle.fax_files.proofs.FileOffsetLemmas.{HasBytesAt, at_offset, at_left, at_right, at_inside, at_drop, at_start}
+use Rattle.fax_files.proofs.FileOffsetLemmas.{at_slice, length-slice}
+use Rattle.fax_files.proofs.FileOffsetLemmas.{slice_there, at_end, at_grown, at_patch, at_before_patch, at_after_patch}
+use Rattle.fax_files.proofs.FileOffsetLemmas.{length-patched}
+use Rattle.fax_files.proofs.FileOffsetLemmas.{number_there}
 use Rattle.fax_files.proofs.WrittenStripLemmas.{length-offsets_from, length-lengths_of, length-longs}
 use Rattle.fax_files.proofs.WrittenPageLemmas.{page_fields, IsPageAt, length-page_fields, page_back, directory_whole}
 use Rattle.fax_files.proofs.WrittenPageLemmas.{next_there}
@@ -43,8 +43,8 @@ abbrev with_written : Written → ℕ → ℕ → WrittenPage → Written
 with_written old total k written = with_page old total k written.form written.strips
 
 -- where its directory stands
-abbrev place_of : Written → WrittenPage → ℕ
-place_of old written = directory_place (length old.bytes) written.strips
+abbrev offset_of : Written → WrittenPage → ℕ
+offset_of old written = directory_offset (length old.bytes) written.strips
 
 -- what is written of a page stands after what stood there
 appended : (old : Written) (total k : ℕ) (written : WrittenPage) → HasOpenLink old
@@ -55,10 +55,10 @@ appended old total k written open' = grind (arith, length-patched, at_inside, at
 
 -- the parts of a page that was appended
 record Appended (old new : Written) (total k : ℕ) (written : WrittenPage) : Type 0 where
-  page_is : IsPageAt new.bytes (place_of old written) (length old.bytes) total k written
-  new_link : new.link ≡ place_of old written + to_link
+  page_is : IsPageAt new.bytes (offset_of old written) (length old.bytes) total k written
+  new_link : new.link ≡ offset_of old written + to_link
   is_open : HasOpenLink new
-  old_link : HasBytesAt new.bytes old.link (four (place_of old written))
+  old_link : HasBytesAt new.bytes old.link (four (offset_of old written))
   kept : (p : ℕ) (bytes : List ℕ) → (p + length bytes ≤ old.link) ⊎ (old.link + 4 ≤ p) → HasBytesAt old.bytes p bytes
       → HasBytesAt new.bytes p bytes
 
@@ -70,12 +70,12 @@ stays old total k written p bytes (inl before) h = grind (arith, at_grown, at_be
 stays old total k written p bytes (inr after) h = grind (arith, at_grown, at_after_patch)
 
 linked : (old : Written) (total k : ℕ) (written : WrittenPage) → HasOpenLink old
-    → HasBytesAt (with_written old total k written).bytes old.link (four (place_of old written))
+    → HasBytesAt (with_written old total k written).bytes old.link (four (offset_of old written))
 unfolding with_page
 linked old total k written open' = grind (arith, at_grown, at_patch, at_inside)
 
 link_of : (old : Written) (total k : ℕ) (written : WrittenPage)
-    → (with_written old total k written).link ≡ place_of old written + to_link
+    → (with_written old total k written).link ≡ offset_of old written + to_link
 unfolding with_page
 link_of old total k written = refl
 
@@ -85,7 +85,7 @@ is_appended : (old : Written) (total k : ℕ) (written : WrittenPage) → HasOpe
 unfolding page_bytes
 is_appended old total k written open' w =
     let start = length old.bytes in
-    let q = place_of old written in
+    let q = offset_of old written in
     let strips = joined_strips written.strips in
     let pad : List ℕ = replicate ((start + length strips) % 2) 0 in
     let fields = fields_bytes (page_fields q start total k written) in
@@ -96,18 +96,18 @@ is_appended old total k written open' w =
     let all = appended old total k written open' in
     let with_zero = at_left (strips ++ pad ++ fields ++ four 0) values all in
     let with_fields = at_left (strips ++ pad ++ fields) (four 0) with_zero in
-    let zero_place : start + length (strips ++ pad ++ fields) ≡ q + to_link =
+    let zero_offset : start + length (strips ++ pad ++ fields) ≡ q + to_link =
     omega (arith, offset, fields_len, length-append (strips ++ pad) fields) in
     let values_offset : start + length (strips ++ pad ++ fields ++ four 0) ≡ q + to_x =
-    omega (arith, zero_place, length-append (strips ++ pad ++ fields) (four 0)) in
+    omega (arith, zero_offset, length-append (strips ++ pad ++ fields) (four 0)) in
     record {
       page_is = record {
-        fields = at_place offset (at_right (strips ++ pad) fields with_fields);
-        values = at_place values_offset (at_right (strips ++ pad ++ fields ++ four 0) values all);
+        fields = at_offset offset (at_right (strips ++ pad) fields with_fields);
+        values = at_offset values_offset (at_right (strips ++ pad ++ fields ++ four 0) values all);
         strips = at_left strips pad (at_left (strips ++ pad) fields with_fields);
       };
       new_link = link_of old total k written;
-      is_open = at_place (zero_place ∙ sym (link_of old total k written))
+      is_open = at_offset (zero_offset ∙ sym (link_of old total k written))
           (at_right (strips ++ pad ++ fields) (four 0) with_zero);
       old_link = linked old total k written open';
       kept = stays old total k written;
@@ -121,7 +121,7 @@ length-array numbers = grind (arith, length-longs)
 pub length-with_page : (old : Written) (total k : ℕ) (written : WrittenPage) → old.link + 4 ≤ length old.bytes
     → IsWritable written
     → length (with_written old total k written).bytes
-    ≡ place_of old written + to_offsets + 2 * (if nat_le (length written.strips) 1 then 0 else 4 * length
+    ≡ offset_of old written + to_offsets + 2 * (if nat_le (length written.strips) 1 then 0 else 4 * length
     written.strips)
 unfolding with_page page_bytes
 length-with_page old total k written inside w =
@@ -140,7 +140,7 @@ length-with_page old total k written inside w =
 pub appended_pages_are_read : AppendedPagesAreRead
 appended_pages_are_read old total k written open' w short =
     let new = with_written old total k written in
-    let q = place_of old written in
+    let q = offset_of old written in
     let has_link : HasOpenLink old = rw open'.zero at (at_slice old.bytes old.link 4 open'.inside) in
     let one = is_appended old total k written has_link w in
     let after = at_inside _ one.page_is.values in
@@ -154,7 +154,7 @@ appended_pages_are_read old total k written open' w short =
       whole = directory_whole new.bytes q (length old.bytes) total k written one.page_is;
       last =
           next_there new.bytes q (length old.bytes) total k written one.page_is
-          ∙ number_there 4 (at_place one.new_link one.is_open) (omega arith);
+          ∙ number_there 4 (at_offset one.new_link one.is_open) (omega arith);
       read = page_back new.bytes q (length old.bytes) total k written
           (record { small = omega (arith, short); writable = w; here = one.page_is });
       is_open = record { inside = at_inside (four 0) one.is_open; zero = slice_there (four 0) one.is_open };
@@ -163,7 +163,7 @@ appended_pages_are_read old total k written open' w short =
 -- where the directories of pages that are appended stand
 abbrev pub offsets_of : Written → ℕ → ℕ → List WrittenPage → List ℕ
 offsets_of old total k [] = []
-offsets_of old total k (written ∷ pages) = place_of old written
+offsets_of old total k (written ∷ pages) = offset_of old written
     ∷ offsets_of (with_written old total k written) total (k + 1) pages
 
 -- the file with them
@@ -188,12 +188,12 @@ stays_through old total k (written ∷ pages) open' w p bytes apart h =
 page_stays : (old : Written) (total k : ℕ) (written : WrittenPage) (pages : List WrittenPage) → HasOpenLink old
     → IsWritable written
     → AreWritable pages
-    → IsPageAt (with_all (with_written old total k written) total (k + 1) pages) (place_of old written)
+    → IsPageAt (with_all (with_written old total k written) total (k + 1) pages) (offset_of old written)
     (length old.bytes) total k written
 page_stays old total k written pages open' w rest =
     let one = is_appended old total k written open' w in
     let new = with_written old total k written in
-    let q = place_of old written in
+    let q = offset_of old written in
     let keep = stays_through new total (k + 1) pages one.is_open rest in
     let fields = fields_bytes (page_fields q (length old.bytes) total k written) in
     let fields_len = length-page_fields q (length old.bytes) total k written w in
@@ -215,7 +215,7 @@ chain_through old total k [] open' w small before below = search (rules, number_
 chain_through old total k (written ∷ pages) open' w small before below =
     let one = is_appended old total k written open' w.0 in
     let new = with_written old total k written in
-    let q = place_of old written in
+    let q = offset_of old written in
     let file = with_all new total (k + 1) pages in
     let inside = at_inside (four 0) open' in
     let here = page_stays old total k written pages open' w.0 w.1 in
@@ -249,7 +249,7 @@ pages_through old total k (written ∷ pages) open' w small =
     let one = is_appended old total k written open' w.0 in
     let new = with_written old total k written in
     let here = page_stays old total k written pages open' w.0 w.1 in (
-      page_back (with_all new total (k + 1) pages) (place_of old written) (length old.bytes) total k written
+      page_back (with_all new total (k + 1) pages) (offset_of old written) (length old.bytes) total k written
           (record { small = small; writable = w.0; here = here }),
       pages_through new total (k + 1) pages one.is_open w.1 small,
     )
@@ -275,7 +275,7 @@ first_there : (written : WrittenPage) (total k : ℕ) (pages : List WrittenPage)
 unfolding with_pages
 first_there written total k pages w small =
     let one = is_appended empty_file total k written (at_end (codes "II" ++ two 42) (four 0)) w.0 in
-    let q = place_of empty_file written in
+    let q = offset_of empty_file written in
     let link = stays_through (with_written empty_file total k written) total (k + 1) pages one.is_open w.1 4 (four q)
     (inl (omega (arith, one.new_link))) one.old_link in
     let here = page_stays empty_file total k written pages (at_end (codes "II" ++ two 42) (four 0)) w.0 w.1 in

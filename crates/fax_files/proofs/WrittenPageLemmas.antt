@@ -24,7 +24,7 @@ use Rattle.fax_files.specs.code.PageParts.{field_count, to_x, to_y, to_offsets, 
 use Rattle.fax_files.specs.code.PageParts.{rational_bytes, fields_of}
 use Rattle.fax_files.specs.code.PageParts.{fields_bytes, values_bytes, joined_strips}
 use Rattle.fax_files.specs.laws.TiffFiles.{IsWritable, IsReadAt}
-use Rattle.fax_files.proofs.FilePlaceLemmas.{HasBytesAt, at_place, at_left, at_right, at_inside, number_there}
+use Rattle.fax_files.proofs.FileOffsetLemmas.{HasBytesAt, at_offset, at_left, at_right, at_inside, number_there}
 use Rattle.fax_files.proofs.WrittenFieldLemmas.{AllFit, length-fields, read_fields, HasValues, written_field}
 use Rattle.fax_files.proofs.WrittenFieldLemmas.{entries_there}
 use Rattle.fax_files.proofs.WrittenFieldLemmas.{long_read, short_read, rational_back}
@@ -149,9 +149,9 @@ values_there file q form offsets lengths h =
     let front = at_left (x ++ y ++ array_bytes offsets) (array_bytes lengths) h in
     record {
       x = at_left x y (at_left (x ++ y) (array_bytes offsets) front);
-      y = at_place (omega arith) (at_right x y (at_left (x ++ y) (array_bytes offsets) front));
-      offsets_there = at_place (omega arith) (at_right (x ++ y) (array_bytes offsets) front);
-      lengths_there = at_place (omega (arith, length-append (x ++ y) (array_bytes offsets)))
+      y = at_offset (omega arith) (at_right x y (at_left (x ++ y) (array_bytes offsets) front));
+      offsets_there = at_offset (omega arith) (at_right (x ++ y) (array_bytes offsets) front);
+      lengths_there = at_offset (omega (arith, length-append (x ++ y) (array_bytes offsets)))
           (at_right (x ++ y ++ array_bytes offsets) (array_bytes lengths) h);
     }
 
@@ -244,7 +244,7 @@ module _ (file : List ℕ) (q start total k : ℕ) (written : WrittenPage) (know
           lengths_len,
         ) in
         array_back file (q + 2) Tags.STRIP_BYTE_COUNTS (q + to_offsets + 4 * length lengths) lengths fields values refl
-        (omega (arith, some, lengths_len)) known.small (λ many. at_place (offset many) parts.lengths_there)
+        (omega (arith, some, lengths_len)) known.small (λ many. at_offset (offset many) parts.lengths_there)
 
     -- so the page has the form that was written
     fields_there : form_in Little file entries_read ≡ Ok written.form

@@ -8,10 +8,10 @@ use Rattle.std.specs.Prelude.{nat_le, IsOk}
 use Rattle.fax_files.specs.Directory.{Entry, field, values_offset, value_at, has_integers}
 use Rattle.fax_files.specs.declared.Endian.TheVariants.{Little}
 use Rattle.fax_files.specs.code.Steps.{placed_bytes, strip_field}
-use Rattle.fax_files.specs.Layout.{four, WrittenField, offsets_from, one_or_place, array_bytes}
+use Rattle.fax_files.specs.Layout.{four, WrittenField, offsets_from, one_or_offset, array_bytes}
 use Rattle.fax_files.specs.code.PageParts.{long_field, lengths_of, longs, joined_strips}
-use Rattle.fax_files.proofs.FilePlaceLemmas.{HasBytesAt, at_place, at_left, at_right, at_inside, number_there}
-use Rattle.fax_files.proofs.FilePlaceLemmas.{bytes_there}
+use Rattle.fax_files.proofs.FileOffsetLemmas.{HasBytesAt, at_offset, at_left, at_right, at_inside, number_there}
+use Rattle.fax_files.proofs.FileOffsetLemmas.{bytes_there}
 use Rattle.fax_files.proofs.WrittenFieldLemmas.{read_fields, HasValues, written_field, field_there}
 use Rattle.fax_files.specs.declared.tags.TheConstants as Tags
 
@@ -21,7 +21,7 @@ longs_entry tag count offset = record { tag = tag; kind = Tags.LONG; count = cou
 
 -- numbers stand where an entry has its values, in the entry or after the directory
 array_there : (file : List ℕ) (p tag offset : ℕ) (numbers : List ℕ) → 1 ≤ length numbers → length file < 4294967296
-    → HasBytesAt file p (four (one_or_place numbers offset)) → (2 ≤ length numbers
+    → HasBytesAt file p (four (one_or_offset numbers offset)) → (2 ≤ length numbers
     → HasBytesAt file offset (array_bytes numbers))
     → HasBytesAt file (values_offset Little file (longs_entry tag (length numbers) p)) (longs numbers)
 unfolding values_offset
@@ -44,9 +44,9 @@ length-longs (n ∷ numbers) = omega (arith, length-append (four n) (longs numbe
 long_at : (file : List ℕ) (p : ℕ) (numbers : List ℕ) (i : ℕ) → i < length numbers → HasBytesAt file p (longs numbers)
     → HasBytesAt file (p + i * 4) (four (get_or numbers i 0))
 long_at file p [] i lt h = absurd (omega arith)
-long_at file p (n ∷ numbers) zero lt h = at_place (omega arith) (at_left (four n) (longs numbers) h)
+long_at file p (n ∷ numbers) zero lt h = at_offset (omega arith) (at_left (four n) (longs numbers) h)
 long_at file p (n ∷ numbers) (suc i) lt h =
-    at_place (omega arith) (long_at file (p + 4) numbers i (omega arith) (at_right (four n) (longs numbers) h))
+    at_offset (omega arith) (long_at file (p + 4) numbers i (omega arith) (at_right (four n) (longs numbers) h))
 
 -- the entry of a tag has these numbers, which stand where it has its values
 pub record ArrayThere (file : List ℕ) (fields : List Entry) (tag : ℕ) (numbers : List ℕ) : Type 0 where
@@ -57,12 +57,12 @@ pub record ArrayThere (file : List ℕ) (fields : List Entry) (tag : ℕ) (numbe
 -- so does the entry of numbers that were written
 pub array_back : (file : List ℕ) (offset tag at_value : ℕ) (numbers : List ℕ) (fields : List WrittenField)
     → HasValues file offset fields
-    → written_field fields tag ≡ Some (long_field tag (length numbers) (one_or_place numbers at_value))
+    → written_field fields tag ≡ Some (long_field tag (length numbers) (one_or_offset numbers at_value))
     → 1 ≤ length numbers → length file < 4294967296 → (2 ≤ length numbers
     → HasBytesAt file at_value (array_bytes numbers))
     → ArrayThere file (read_fields offset fields) tag numbers
 array_back file offset tag at_value numbers fields values found some small after =
-    let there = field_there file offset tag fields (long_field tag (length numbers) (one_or_place numbers at_value))
+    let there = field_there file offset tag fields (long_field tag (length numbers) (one_or_offset numbers at_value))
     values found in
     record {
       at_entry = there.at_entry + 8;

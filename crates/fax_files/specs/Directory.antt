@@ -15,11 +15,11 @@ pub use Rattle.fax_files.specs.declared.FileFault.{FileFault}
 abbrev pub max_file : ℕ
 max_file = 268435456
 
--- the n bytes from a place on lie in the file
+-- the n bytes from an offset on lie in the file
 abbrev pub is_inside : List ℕ → ℕ → ℕ → Bool
 is_inside file offset n = nat_le (offset + n) (length file)
 
--- the number that the n bytes at a place of the file spell
+-- the number that the n bytes at an offset of the file spell
 unfoldable pub number_at : Endian → ℕ → List ℕ → ℕ → ℕ
 number_at Little n file offset = little_number n (drop offset file)
 number_at Big n file offset = big_number n (drop offset file)
@@ -57,7 +57,7 @@ pub record Entry : Type 0 where
   pub count : ℕ
   pub offset : ℕ
 
--- n entries of twelve bytes each from a place on
+-- n entries of twelve bytes each from an offset on
 unfoldable pub entries_at : Endian → List ℕ → ℕ → ℕ → List Entry
 entries_at endian file offset zero = []
 entries_at endian file offset (suc n) = record {

@@ -45,15 +45,15 @@ offsets_from start (strip ∷ strips) = start ∷ offsets_from (start + length s
 
 -- strip numbers, each a LONG: what their entry has, the number itself where there is one, else
 -- where they stand, and what stands there
-abbrev pub one_or_place : List ℕ → ℕ → ℕ
-one_or_place (n ∷ []) offset = n
-one_or_place _ offset = offset
+abbrev pub one_or_offset : List ℕ → ℕ → ℕ
+one_or_offset (n ∷ []) offset = n
+one_or_offset _ offset = offset
 
 abbrev pub array_bytes : List ℕ → List ℕ
 array_bytes (n ∷ []) = []
 array_bytes numbers = flat_map four numbers
 
--- how far after a directory's place its next offset stands: after the number of its fields and
+-- how far after a directory's first byte its next offset stands: after the number of its fields and
 -- twelve bytes of each of the sixteen
 abbrev pub to_link : ℕ
 to_link = 2 + 12 * 16
@@ -80,13 +80,13 @@ fields_with q total k form offsets byte_counts =
     ∷ field_of Tags.PAGE_NUMBER Tags.SHORT 2 (two k ++ two total)
     ∷ []
 
--- the place of the directory of a page whose strips begin at `start`: after the strips, at an even
--- place
-abbrev pub directory_place : ℕ → List (List ℕ) → ℕ
-directory_place start strips =
+-- the offset of the directory of a page whose strips begin at `start`: the first even one after
+-- the strips
+abbrev pub directory_offset : ℕ → List (List ℕ) → ℕ
+directory_offset start strips =
     let end = start + length (flat_map (λ strip. strip) strips) in end + end % 2
 
--- what is written of page k of `total` from `start` on: its strips, a zero byte if the place is
+-- what is written of page k of `total` from `start` on: its strips, a zero byte if the offset is
 -- odd, its directory, of which the next offset is 0, its resolutions, and the offsets and byte
 -- counts if it has more than one strip
 unfoldable pub page_bytes : ℕ → ℕ → ℕ → PageForm → List (List ℕ) → List ℕ
@@ -94,10 +94,10 @@ page_bytes start total k form strips =
     let all = flat_map (λ strip. strip) strips in
     let offsets = offsets_from start strips in
     let lengths = map length strips in
-    let q = directory_place start strips in
+    let q = directory_offset start strips in
     let offset = q + (to_link + 20) in
-    let at_offsets = four (one_or_place offsets offset) in
-    let at_lengths = four (one_or_place lengths (offset + 4 * length lengths)) in
+    let at_offsets = four (one_or_offset offsets offset) in
+    let at_lengths = four (one_or_offset lengths (offset + 4 * length lengths)) in
     let fields = fields_with q total k form
     (field_of Tags.STRIP_OFFSETS Tags.LONG (length offsets) at_offsets)
     (field_of Tags.STRIP_BYTE_COUNTS Tags.LONG (length lengths) at_lengths) in
@@ -107,7 +107,7 @@ page_bytes start total k form strips =
     ++ (four form.x.0 ++ four form.x.1 ++ (four form.y.0 ++ four form.y.1) ++ array_bytes offsets
     ++ array_bytes lengths)
 
--- a file that is being written, and the place of the offset of the next page's directory
+-- a file that is being written, and where the offset of the next page's directory stands
 pub record Written : Type 0 where
   pub bytes : List ℕ
   pub link : ℕ
@@ -115,7 +115,7 @@ pub record Written : Type 0 where
 -- a file with page k of `total` at its end, to whose directory the last offset leads
 unfoldable pub with_page : Written → ℕ → ℕ → PageForm → List (List ℕ) → Written
 with_page old total k form strips =
-    let offset = directory_place (length old.bytes) strips in
+    let offset = directory_offset (length old.bytes) strips in
     record {
       bytes = take old.link old.bytes ++ four offset ++ drop (old.link + 4) old.bytes
           ++ page_bytes (length old.bytes) total k form strips;

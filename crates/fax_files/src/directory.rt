@@ -132,7 +132,7 @@ impl<'a> Directory<'a> {
         Ok(self.page_and_strips()?.0)
     }
 
-    /// The form of the page, as `page` has it, and the places of its strips, by one pass over the
+    /// The form of the page, as `page` has it, and where its strips stand, by one pass over the
     /// entries.
     pub fn page_and_strips(&self) -> Result<(PageForm, Strips<'a>), FileFault>
         ensures form { IfOk result (λ page. form_of self.now ≡ Ok page.0) }

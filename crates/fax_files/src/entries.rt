@@ -63,7 +63,7 @@ impl Entry {
 }
 
 impl<'a> File<'a> {
-    /// The entry of twelve bytes at a place.
+    /// The entry of twelve bytes at an offset.
     pub fn entry_at(&self, offset: usize) -> Entry
         requires { offset + 12 ≤ length self.now.bytes.now }
         ensures { result ≡ entry_at self.now.endian self.now.bytes.now offset }

@@ -42,7 +42,7 @@ pub enum Endian {
     Big,
 }
 
-/// Why a file's header, a directory, a field or a strip's place is refused.
+/// Why a file's header, a directory, a field or a strip's offset is refused.
 #[derive(Clone, Copy, Debug, PartialEq, Eq, Error)]
 pub enum FileFault {
     /// The file has fewer bytes than a header, which has eight.

@@ -13,7 +13,7 @@ pub(crate) struct File<'a> {
     pub endian: Endian,
 }
 
-/// Whether the `len` bytes from a place on lie in the file.
+/// Whether the `len` bytes from an offset on lie in the file.
 pub(crate) fn is_inside(file: &[u8], offset: usize, len: usize) -> bool
     ensures { result ≡ lies_inside file.now offset len }
 {
@@ -21,7 +21,7 @@ pub(crate) fn is_inside(file: &[u8], offset: usize, len: usize) -> bool
 }
 
 impl<'a> File<'a> {
-    /// The number of two bytes at a place.
+    /// The number of two bytes at an offset.
     #[tactic(auto, unfolding(crate::specs::Directory::number_at))]
     pub fn u16_at(&self, offset: usize) -> u16
         requires { offset + 2 ≤ length self.now.bytes.now }
@@ -34,7 +34,7 @@ impl<'a> File<'a> {
         }
     }
 
-    /// The number of four bytes at a place.
+    /// The number of four bytes at an offset.
     #[tactic(auto, unfolding(crate::specs::Directory::number_at))]
     pub fn u32_at(&self, offset: usize) -> u32
         requires { offset + 4 ≤ length self.now.bytes.now }

@@ -52,7 +52,7 @@ impl Model for Resolution {
     ghost view = { λ r. record { x = r.x; y = r.y; unit = r.unit } };
 }
 
-/// The form of a page and the places of its strips, or its first fault.
+/// The form of a page and where its strips stand, or its first fault.
 #[tactic(auto, using(crate::proofs::PageFormLemmas::page_is))]
 pub(crate) fn read_page<'a>(fields: &Fields<'_, 'a>) -> Result<(PageForm, Strips<'a>), FileFault>
     ensures form { IfOk result (λ page. form_of fields.now ≡ Ok page.0) }

@@ -9,7 +9,7 @@ use crate::entries::Entry;
 use crate::numbers::is_inside;
 use std::marker::Model;
 
-/// The places of a page's strips: two entries of its directory, with a value for each strip.
+/// Where the strips of a page stand: two entries of its directory, with a value for each strip.
 #[derive(Drop)]
 pub struct Strips<'a> {
     directory: Directory<'a>,
@@ -20,17 +20,17 @@ pub struct Strips<'a> {
 
 impl<'a> Model for Strips<'a> {
     ghost use Rattle.fax_files.specs.views.Tiff.{PageStrips};
-    ghost use Rattle.fax_files.specs.code.Tiff.{AreStripPlaces};
+    ghost use Rattle.fax_files.specs.code.Tiff.{AreStripEntries};
 
     ghost Value = { PageStrips };
 
     ghost view = { λ s. record { directory = s.directory; count = s.count } };
 
-    ghost invariant = { λ s. AreStripPlaces s.directory s.count s.offsets s.byte_counts };
+    ghost invariant = { λ s. AreStripEntries s.directory s.count s.offsets s.byte_counts };
 }
 
 impl<'a> Strips<'a> {
-    ghost use Rattle.fax_files.specs.code.Tiff.{AreStripPlaces};
+    ghost use Rattle.fax_files.specs.code.Tiff.{AreStripEntries};
 
     /// The strips of the page with this directory.
     pub(crate) fn new(
@@ -39,7 +39,7 @@ impl<'a> Strips<'a> {
         offsets: Entry,
         byte_counts: Entry,
     ) -> Self
-        requires { AreStripPlaces directory count offsets byte_counts }
+        requires { AreStripEntries directory count offsets byte_counts }
         ensures directory { result.directory ≡ directory.entry }
         ensures count { result.count ≡ count }
     {
@@ -75,8 +75,7 @@ impl<'a> Strips<'a> {
         ensures outside { OnErr result (bytes_of self.now.directory s ≡ None) }
         ensures fault { IfErr result (λ fault. fault ≡ FileFault.StripOutside) }
     {
-        // A byte count of 0 at an offset past the file's end is refused too: zero bytes have a
-        // place.
+        // A byte count of 0 at an offset past the file's end is refused too.
         let file = self.directory.file();
         let offset = file.value_at(&self.offsets, s) as usize;
         let len = file.value_at(&self.byte_counts, s) as usize;

@@ -3,7 +3,7 @@
 ghost use Rattle.std.specs.Prelude.{◌≡◌, ◌+◌, ◌<◌, ◌≤◌, length, false, IfOk, OnOk, OnErr, Err, ◌↔◌};
 ghost use Rattle.fax_files.specs.views.Page.{IsPageForm};
 ghost use Rattle.fax_files.specs.Directory.{max_file};
-ghost use Rattle.fax_files.specs.Layout.{directory_place, page_bytes, to_link};
+ghost use Rattle.fax_files.specs.Layout.{directory_offset, page_bytes, to_link};
 ghost use Rattle.fax_files.specs.views.Writing as Spec;
 
 use crate::PageForm;
@@ -62,11 +62,11 @@ pub fn write_page(
     ensures bytes { IfOk result (λ page. page.bytes.items
         ≡ page_bytes start total number form.now (Spec.contents strips.now)) }
     ensures directory { IfOk result (λ page. page.directory
-        ≡ directory_place start (Spec.contents strips.now)) }
+        ≡ directory_offset start (Spec.contents strips.now)) }
     ensures link { IfOk result (λ page. page.link ≡ page.directory + to_link) }
     ensures within { IfOk result (λ page. start + length page.bytes.items ≤ max_file) }
-    ensures too_large { (result ≡ Err WriteFault.OutputTooLarge) → max_file
-        < start + length (page_bytes start total number form.now (Spec.contents strips.now)) }
+    ensures too_large { (result ≡ Err WriteFault.OutputTooLarge) ↔ (max_file
+        < start + length (page_bytes start total number form.now (Spec.contents strips.now))) }
 {
     let Some(end) = strips_end(start, strips) else {
         return Err(WriteFault::OutputTooLarge);

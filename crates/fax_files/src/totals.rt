@@ -20,7 +20,7 @@ fn next_link(file: &[u8], link: usize) -> usize
     file.u32_at(link) as usize + TO_NEXT_OFFSET as usize
 }
 
-/// Writes a number of two bytes at a place.
+/// Writes a number of two bytes at an offset.
 fn set_u16(file: &mut [u8], offset: usize, n: u16)
     requires { offset + 2 ≤ length file.old }
     ensures { file.new ≡ take offset file.old ++ two n ++ drop (offset + 2) file.old }

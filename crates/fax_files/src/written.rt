@@ -23,7 +23,8 @@ pub const MAX_FILE: u32 = 268_435_456;
 
 /// The number of fields of a directory.
 const FIELDS: usize = 16;
-/// How far after a directory's place its next offset stands: after the number of its fields, and
+/// How far after a directory's first byte its next offset stands: after the number of its fields,
+/// and
 /// twelve bytes of each.
 pub(crate) const TO_NEXT_OFFSET: u32 = 2 + 12 * FIELDS as u32;
 /// How far after it the fraction of XResolution stands.
@@ -97,7 +98,7 @@ fn short_field(tag: u16, n: u16) -> Field
     }
 }
 
-/// A field of LONGs: the one that there is, or the place of the first.
+/// A field of LONGs: the one that there is, or the offset of the first.
 fn long_field(tag: u16, count: u32, n: u32) -> Field
     ensures { result ≡ SparseBytes.long_field tag count n }
 {
@@ -109,7 +110,7 @@ fn long_field(tag: u16, count: u32, n: u32) -> Field
     }
 }
 
-/// A field of one fraction, which stands at a place.
+/// A field of one fraction, which stands at an offset.
 fn rational_field(tag: u16, offset: u32) -> Field
     ensures { result ≡ SparseBytes.rational_field tag offset }
 {
@@ -152,20 +153,20 @@ fn fill_order(order: FillOrder) -> u16
     }
 }
 
-/// Where a page is written: its number of how many, the place of its directory, and its strips.
+/// Where a page is written: its number of how many, the offset of its directory, and its strips.
 #[derive(Clone, Copy)]
 pub(crate) struct Layout {
     /// The number of pages.
     pub total: u16,
     /// The number of this page, from 0.
     pub number: u16,
-    /// The place of the directory.
+    /// The offset of the directory.
     pub directory: u32,
     /// The number of strips.
     pub strips: u32,
-    /// The value of StripOffsets: the one offset, or the place of the first.
+    /// The value of StripOffsets: the one offset, or the offset of the first.
     pub offsets: u32,
-    /// The value of StripByteCounts: the one byte count, or the place of the first.
+    /// The value of StripByteCounts: the one byte count, or the offset of the first.
     pub byte_counts: u32,
 }
 
@@ -193,7 +194,7 @@ fn page_fields(form: &PageForm, at: &Layout) -> [Field; FIELDS]
     requires { at.now.directory ≤ max_file }
     ensures { result ≡ laid_out_fields at.now form.now }
 {
-    // The places of a directory's parts are computed from `FIELDS`, in the definitions too: one
+    // The offsets of a directory's parts are computed from `FIELDS`, in the definitions too: one
     // more field is a line in each, and the two counts.
     [
         long_field(tags::NEW_SUBFILE_TYPE, 1, 2),
@@ -233,7 +234,7 @@ fn put_directory(out: &mut Vec<u8>, fields: &[Field]) -> Result<(), AllocError>
     push_u32(out, 0)
 }
 
-/// Appends the offsets of strips that begin at a place.
+/// Appends the offsets of strips that begin at an offset.
 fn put_offsets(out: &mut Vec<u8>, start: u32, strips: &[Vec<u8>]) -> Result<(), AllocError>
     requires { start + length (SparseBytes.joined_strips (contents strips.now)) < 4294967296 }
     ensures { OnOk result (out.new.items
@@ -271,7 +272,7 @@ fn put_strips(out: &mut Vec<u8>, strips: &[Vec<u8>]) -> Result<(), AllocError>
     Ok(())
 }
 
-/// The strips of a page that is written, which begin and end at these places of the file.
+/// The strips of a page that is written, which begin and end at these offsets of the file.
 #[derive(Clone, Copy)]
 pub(crate) struct StripsAt<'a> {
     pub strips: &'a [Vec<u8>],
@@ -279,7 +280,7 @@ pub(crate) struct StripsAt<'a> {
     pub end: u32,
 }
 
-/// The bytes of a page that stand after its strips: a zero byte to an even place, the directory,
+/// The bytes of a page that stand after its strips: a zero byte to an even offset, the directory,
 /// and the values that do not fit it.
 pub(crate) fn page_tail(
     alloc: Global,
@@ -310,7 +311,7 @@ pub(crate) fn page_tail(
     Ok(tail)
 }
 
-/// How many bytes a file has whose last page has its directory at this place, and so many strips.
+/// How many bytes a file has whose last page has its directory at this offset, and so many strips.
 pub(crate) fn page_end(directory: u32, strips: u32) -> u64
     ensures { result ≡ end_of_page directory strips }
 {
@@ -356,7 +357,7 @@ pub(crate) fn append(bytes: &mut Vec<u8>, strips: &[Vec<u8>], tail: &[u8]) -> Re
     bytes.extend_from_slice(tail)
 }
 
-/// Sets the four bytes at a place.
+/// Sets the four bytes at an offset.
 fn set_u32(bytes: &mut [u8], offset: usize, n: u32)
     requires { offset + 4 ≤ length bytes.old }
     ensures { bytes.new ≡ SparseBytes.with_four_at bytes.old offset n }
@@ -364,7 +365,7 @@ fn set_u32(bytes: &mut [u8], offset: usize, n: u32)
     bytes[offset..offset + 4].copy_from_slice(&u32_bytes(n));
 }
 
-/// The place after strips that begin at a place, if it is within the limit of a file.
+/// The offset after strips that begin at an offset, if it is within the limit of a file.
 pub(crate) fn strips_end(start: u32, strips: &[Vec<u8>]) -> Option<u32>
     requires { start ≤ max_file }
     ensures found { IfSome result (λ end. end
@@ -383,7 +384,7 @@ pub(crate) fn strips_end(start: u32, strips: &[Vec<u8>]) -> Option<u32>
     Some(end)
 }
 
-/// Sets the four bytes at a place of a file.
+/// Sets the four bytes at an offset of a file.
 pub(crate) fn set_link(bytes: &mut Vec<u8>, offset: usize, n: u32)
     requires { offset + 4 ≤ length bytes.old.items }
     ensures { bytes.new.items ≡ SparseBytes.with_four_at bytes.old.items offset n }

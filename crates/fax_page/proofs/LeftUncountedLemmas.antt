@@ -15,7 +15,7 @@ use Rattle.fax_page.specs.LeftUncounted.{AreLeftUncounted, ResumesUncounted, Has
 use Rattle.fax_page.specs.views.Salvage.{IsAfterLost, IsSalvageStep, SalvageState}
 use Rattle.fax_page.specs.views.LeftUncounted.{AreLeftFrom, IsUncountedStep, PassesAll, PassesUncounted}
 use Rattle.fax_page.specs.views.LeftUncounted.{UncountedState}
-use Rattle.fax_page.specs.code.LeftUncounted.{HasPassed, IsGoingThrough, IsOverAfter, alone, fault_of}
+use Rattle.fax_page.specs.code.LeftUncounted.{HasPassed, IsGoingThrough, IsFinalFaultAfter, alone, fault_of}
 
 -- the next row is one of the strip, and the rows do not end before it
 pub is_upcoming : (strip : SalvageState) (salvaged : Salvaged) (new : SalvageState) (end : RowsEnd)
@@ -25,29 +25,29 @@ is_upcoming strip Found new end ends many step = (step.upcoming, sym ends ∙ ma
 is_upcoming strip (Lost fault rows) new end ends many step = (step.0, sym ends ∙ many)
 is_upcoming strip (Unterminated rows) new end ends many step = (omega (arith, step.3.1), sym ends ∙ many)
 
-module _ (strip new : SalvageState) (row : ℕ) (over : Option StripFault) (row_is : row ≡ strip.row)
+module _ (strip new : SalvageState) (row : ℕ) (final_fault : Option StripFault) (row_is : row ≡ strip.row)
     (most : strip.form.rows ≡ most_rows) (upcoming : HasNextRow strip.form strip.row strip.upcoming) where
   abbrev old_state : UncountedState
-  old_state = record { strip = strip; row = row; over = None }
+  old_state = record { strip = strip; row = row; final_fault = None }
 
   abbrev new_state : UncountedState
-  new_state = record { strip = new; row = row + 1; over = over }
+  new_state = record { strip = new; row = row + 1; final_fault = final_fault }
 
   here : (strip.row < strip.form.rows) × (rows_end strip.form.coding row strip.upcoming None ≡ TooMany)
   here =
       (upcoming.0, subst (λ n. rows_end strip.form.coding n strip.upcoming None ≡ TooMany) (sym row_is) upcoming.1)
 
   -- the rows end with this fault, if with one, where a strip has no more rows
-  abbrev pub IsOver : Option StripFault → Type 0
-  IsOver fault = ((new.row ≡ most_rows) × (over ≡ fault)) ⊎ ((new.row ≢ most_rows) × (over ≡ None))
+  abbrev pub IsFinalFault : Option StripFault → Type 0
+  IsFinalFault fault = ((new.row ≡ most_rows) × (final_fault ≡ fault)) ⊎ ((new.row ≢ most_rows) × (final_fault ≡ None))
 
   -- after a lost row, what is left continues, or ends with its fault
-  goes_on : (fault : StripFault) (count : ℕ) → IsAfterLost strip fault count new → IsOver (Some fault)
+  goes_on : (fault : StripFault) (count : ℕ) → IsAfterLost strip fault count new → IsFinalFault (Some fault)
       → (rows : List SalvagedRow) (end : RowsEnd) → AreLeftFrom new_state rows end
       → ResumesUncounted strip.form strip.row strip.upcoming fault
       (λ at. AreLeftUncounted strip.form (strip.row + 1) (Some fault) (white_row strip.form.width) at rows end) rows end
-  goes_on fault count (from, sought, after) is_over rows end are =
-      (from, sought, at_upcoming (resync_point strip.form.coding from) after is_over)
+  goes_on fault count (from, sought, after) is_final_fault rows end are =
+      (from, sought, at_upcoming (resync_point strip.form.coding from) after is_final_fault)
     where
       After : Option (List Bool) → Type 0
       After o =
@@ -67,10 +67,10 @@ module _ (strip new : SalvageState) (row : ℕ) (over : Option StripFault) (row_
           ⊎ ((at : List Bool) × (o ≡ Some at) × (strip.row + 1 < strip.form.rows)
           × AreLeftUncounted strip.form (strip.row + 1) (Some fault) (white_row strip.form.width) at rows end)
 
-      ended : over ≡ Some fault → (rows ≡ []) × (end ≡ Fault fault)
+      ended : final_fault ≡ Some fault → (rows ≡ []) × (end ≡ Fault fault)
       ended is = rw is at are
 
-      at_upcoming : (o : Option (List Bool)) → After o → IsOver (Some fault) → Goes o
+      at_upcoming : (o : Option (List Bool)) → After o → IsFinalFault (Some fault) → Goes o
       at_upcoming None all (inl (last, over_is)) = let e = ended over_is in inl (inl refl, e.0, e.1)
       at_upcoming None all (inr (more, over_is)) = absurd (more (all.2 ∙ most))
       at_upcoming (Some at) one (inl (last, over_is)) =
@@ -116,14 +116,14 @@ module _ (strip new : SalvageState) (row : ℕ) (over : Option StripFault) (row_
       omega (arith, rows, row_is, upcoming.0)
 
   -- a row is passed
-  pub passes : (salvaged : Salvaged) → IsSalvageStep strip (Some salvaged) new → IsOver (fault_of salvaged)
+  pub passes : (salvaged : Salvaged) → IsSalvageStep strip (Some salvaged) new → IsFinalFault (fault_of salvaged)
       → IsUncountedStep old_state (Ok (alone salvaged)) new_state
-  passes Found finds is_over = record {
+  passes Found finds is_final_fault = record {
     same_form = form_same;
     next = refl;
     within = in_form form_same;
     followed = λ rows end are.
-        let own = rw (no_fault is_over, form_same, none, row_is) at are in
+        let own = rw (no_fault is_final_fault, form_same, none, row_is) at are in
         rw row_is (new.upcoming, here, finds.read, finds.ended, own);
   }
     where
@@ -133,19 +133,19 @@ module _ (strip new : SalvageState) (row : ℕ) (over : Option StripFault) (row_
       none : new.before ≡ None
       none = ap (λ (s : SalvageState). s.before) finds.new_is
 
-      no_fault : IsOver None → over ≡ None
+      no_fault : IsFinalFault None → final_fault ≡ None
       no_fault (inl last) = last.1
       no_fault (inr more) = more.1
-  passes (Lost fault count) (low, is, after) is_over = (
+  passes (Lost fault count) (low, is, after) is_final_fault = (
     refl,
     record {
       same_form = form_after fault count after;
       next = refl;
       within = in_form (form_after fault count after);
-      followed = λ rows end are. rw row_is (here, is, goes_on fault count after is_over rows end are);
+      followed = λ rows end are. rw row_is (here, is, goes_on fault count after is_final_fault rows end are);
     },
   )
-  passes (Unterminated count) (pels, rest, read, eol, below, after) is_over = (
+  passes (Unterminated count) (pels, rest, read, eol, below, after) is_final_fault = (
     pels,
     refl,
     record {
@@ -153,31 +153,31 @@ module _ (strip new : SalvageState) (row : ℕ) (over : Option StripFault) (row_
       next = refl;
       within = in_form (form_after MissingEol count after);
       followed = λ rows end are.
-          rw row_is (rest, here, read, eol, below, goes_on MissingEol count after is_over rows end are);
+          rw row_is (rest, here, read, eol, below, goes_on MissingEol count after is_final_fault rows end are);
     },
   )
 
   -- as it is returned
   pub passes_so : (old : UncountedState) (before : Option StripFault) (answer salvaged : Salvaged)
-      → old ≡ record { strip = strip; row = row; over = before } → before ≡ None → answer ≡ alone salvaged
-      → IsSalvageStep strip (Some salvaged) new → IsOver (fault_of salvaged)
+      → old ≡ record { strip = strip; row = row; final_fault = before } → before ≡ None → answer ≡ alone salvaged
+      → IsSalvageStep strip (Some salvaged) new → IsFinalFault (fault_of salvaged)
       → IsUncountedStep old (Ok answer) new_state
-  passes_so old before answer salvaged old_is none answer_is step is_over =
+  passes_so old before answer salvaged old_is none answer_is step is_final_fault =
       let same : old ≡ old_state =
-      old_is ∙ ap (λ (o : Option StripFault). record { strip = strip; row = row; over = o }) none in
+      old_is ∙ ap (λ (o : Option StripFault). record { strip = strip; row = row; final_fault = o }) none in
       subst (λ (s : UncountedState). IsUncountedStep s (Ok answer) new_state) (sym same)
       (subst (λ (a : Salvaged). IsUncountedStep old_state (Ok a) new_state) (sym answer_is)
-      (passes salvaged step is_over))
+      (passes salvaged step is_final_fault))
 
 -- a row was passed, and they are gone through still
-pub still_going : (strip new : SalvageState) (row : ℕ) (salvaged : Salvaged) (over : Option StripFault)
+pub still_going : (strip new : SalvageState) (row : ℕ) (salvaged : Salvaged) (final_fault : Option StripFault)
     → strip.form.rows ≡ most_rows → row ≡ strip.row → IsSalvageStep strip (Some salvaged) new
-    → new.form ≡ strip.form → strip.row < strip.form.rows → IsOverAfter new salvaged over
-    → IsGoingThrough new (row + 1) over
-still_going strip new row salvaged over most row_is step same low is_over = record {
+    → new.form ≡ strip.form → strip.row < strip.form.rows → IsFinalFaultAfter new salvaged final_fault
+    → IsGoingThrough new (row + 1) final_fault
+still_going strip new row salvaged final_fault most row_is step same low is_final_fault = record {
   most = ap (λ (f : StripForm). f.rows) same ∙ most;
   few = omega (arith, row_is, low, most);
-  upcoming = by_step salvaged step is_over;
+  upcoming = by_step salvaged step is_final_fault;
 }
   where
     next_is : (fault : StripFault) (count : ℕ) → IsAfterLost strip fault count new → new.row ≢ most_rows
@@ -199,9 +199,10 @@ still_going strip new row salvaged over most row_is step same low is_over = reco
             let row_next : new.row ≡ strip.row + 1 = ap (λ (s : SalvageState). s.row) one.1 in
             omega (arith, row_next, row_is)
 
-    by_step : (salvaged : Salvaged) → IsSalvageStep strip (Some salvaged) new → IsOverAfter new salvaged over
-        → over ≡ None → row + 1 ≡ new.row
-    by_step Found finds is_over none =
+    by_step : (salvaged : Salvaged) → IsSalvageStep strip (Some salvaged) new
+      → IsFinalFaultAfter new salvaged final_fault
+        → final_fault ≡ None → row + 1 ≡ new.row
+    by_step Found finds is_final_fault none =
         let next : new.row ≡ strip.row + 1 = ap (λ (s : SalvageState). s.row) finds.new_is in
         omega (arith, row_is, next)
     by_step (Lost fault count) step (inl last) none = let some = sym last.1 ∙ none in cc

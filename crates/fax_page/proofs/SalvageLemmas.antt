@@ -4,12 +4,13 @@ use Rattle.fax_page.specs.code.Salvage.{IsSoughtFrom}
 use Rattle.fax_page.specs.code.Starts.{BeginsBelowEleven}
 use Rattle.fax_page.proofs.StartLaws.{IsStart}
 use Rattle.std.proofs.Common.{◌≡◌, ℕ, zero, suc, ◌+◌, ◌-◌, ◌<◌, ◌≤◌, List, [], ◌∷◌, ◌++◌, length, drop, replicate}
-use Rattle.std.proofs.Common.{Bool, true, false, Option, Some, None, refl, ap, sym, ◌∙◌, arith}
+use Rattle.std.proofs.Common.{Bool, true, false, Option, Some, None, refl, ap, sym, ◌∙◌, arith, inl, inr}
 use Rattle.std.proofs.lemmas.List.{length-drop, drop-drop}
 use Rattle.std.specs.Prelude.{nat_lt, nat_le, if◌then◌else◌, option_map, ◌≢◌}
+use Rattle.std.proofs.lemmas.Bool.{cases_lt}
 use Rattle.std.proofs.lemmas.Bool.Decides.{nat_tests}
-use Rattle.fax_bits.specs.Bits.{IsAllZeros}
-use Rattle.fax_bits.specs.views.Source.{Source, HasLeadingZeros, KeepsEnd}
+use Rattle.fax_bits.specs.Bits.{IsAllZeros, StartsWith}
+use Rattle.fax_bits.specs.views.Source.{Source, HasElevenZeros, HasLeadingZeros, KeepsEnd, SkipsShortZeros}
 use Rattle.fax_page.specs.Lines.{Coding, Mh, Mr, Mmr, Dimension, OneDimensional, StripFault}
 use Rattle.fax_page.specs.Strip.{eol_bits}
 use Rattle.fax_page.specs.Salvage.{IsTwoDimensionalNext, after_eol, resync_point, resync_from}
@@ -63,6 +64,53 @@ zeros_count : (zeros : ℕ) (b after : List Bool) → b ≡ replicate zeros fals
     → (zeros + 1 ≤ length b) × (drop (zeros + 1) b ≡ after)
 zeros_count zero b after is = grind arith
 zeros_count (suc zeros) b after is = grind (arith, zeros_count zeros (replicate zeros false ++ true ∷ after) after refl)
+
+-- how many zeros were counted does not matter where fewer than eleven stand together
+same_search : (y z : ℕ) (b : List Bool) → y ≤ z → (StartsWith b (replicate (11 - z) false) → ⊥)
+    → after_eol z b ≡ after_eol y b
+same_search y z [] more few = refl
+same_search y z (true ∷ b) more few = elim (cases_lt z 11) [
+  | inl below ↦ grind (arith, nat_tests)
+  | inr enough ↦
+      let none : 11 - z ≡ 0 = omega arith in
+      absurd (few (true ∷ b, ap (λ n. replicate n false ++ true ∷ b) (sym none)))
+]
+same_search y z (false ∷ b) more few = elim (cases_lt z 11) [
+  | inl below ↦
+      let next : 11 - z ≡ suc (11 - suc z) = omega arith in
+      same_search (suc y) (suc z) b (omega arith) (λ starts. few
+      (starts.0, ap (λ b. false ∷ b) starts.1 ∙ ap (λ n. replicate n false ++ starts.0) (sym next)))
+  | inr enough ↦
+      let none : 11 - z ≡ 0 = omega arith in
+      absurd (few (false ∷ b, ap (λ n. replicate n false ++ false ∷ b) (sym none)))
+]
+
+-- no EOL ends at bits that begin no eleven zeros
+short_zeros : (count : ℕ) (b : List Bool) → count ≤ length b
+    → ((i : ℕ) → i < count → HasElevenZeros (drop i b) → ⊥)
+    → after_eol 0 b ≡ after_eol 0 (drop count b)
+short_zeros zero b within none = refl
+short_zeros (suc count) [] within none = absurd (omega arith)
+short_zeros (suc count) (true ∷ b) within none =
+    short_zeros count b (omega arith) (λ i small. none (suc i) (omega arith))
+short_zeros (suc count) (false ∷ b) within none =
+    same_search 0 1 b (omega arith) (λ starts. none 0 (omega arith) (starts.0, ap (λ b. false ∷ b) starts.1))
+    ∙ short_zeros count b (omega arith) (λ i small. none (suc i) (omega arith))
+
+pub skips_on : (source at new : Source) → IsPassedBy source at → SkipsShortZeros at new → IsPassedBy source new
+skips_on source at new passed skips =
+    let left : at.remaining ≡ drop passed.before source.remaining = ap (λ (s : Source). s.remaining) passed.at_is in
+    let place : at.place ≡ source.place + passed.before = ap (λ (s : Source). s.place) passed.at_is in
+    let count : length at.remaining ≡ length source.remaining - passed.before =
+    ap length left ∙ length-drop passed.before source.remaining in
+    record {
+      before = passed.before + skips.count;
+      within = omega (arith, count, passed.within, skips.within);
+      at_is = grind (arith, skips.new_is, left, place, drop-drop);
+      no_eol =
+          passed.no_eol ∙ short_zeros skips.count at.remaining skips.within skips.none
+          ∙ ap (after_eol 0) (sym (ap (λ (s : Source). s.remaining) skips.new_is));
+    }
 
 module _ (source at : Source) (zeros : ℕ) (passed : IsPassedBy source at) (ahead : HasLeadingZeros at.remaining zeros)
   where

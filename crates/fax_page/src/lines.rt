@@ -199,7 +199,9 @@ pub(crate) fn begins_below_eleven(source: &BitSource) -> bool
 fn first_eol(source: &mut BitSource) -> Option<u64>
     ensures { IsFirstEol source.old result }
 {
-    while let Some(zeros) = source.zeros() {
+    loop {
+        source.skip_short_zeros();
+        let zeros = source.zeros()?;
         // For the proof, as in `read_eol`.
         let remaining = source.remaining();
         prove!(zeros < remaining);
@@ -208,7 +210,6 @@ fn first_eol(source: &mut BitSource) -> Option<u64>
             return Some(source.place() - (EOL_ZEROS + 1));
         }
     }
-    None
 }
 
 /// Where the next EOL begins after row `i`, which begins at this source and is lost: after its own

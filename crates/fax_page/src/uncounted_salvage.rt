@@ -21,7 +21,7 @@ pub struct UncountedSalvage<'a> {
     /// How many rows were passed.
     row: u32,
     /// The fault with which the rows end, once a row was lost after which none is expected.
-    over: Option<StripFault>,
+    final_fault: Option<StripFault>,
 }
 
 impl<'a> Model for UncountedSalvage<'a> {
@@ -30,9 +30,9 @@ impl<'a> Model for UncountedSalvage<'a> {
 
     ghost Value = { UncountedState };
 
-    ghost view = { λ s. record { strip = s.reader; row = s.row; over = s.over } };
+    ghost view = { λ s. record { strip = s.reader; row = s.row; final_fault = s.final_fault } };
 
-    ghost invariant = { λ s. IsGoingThrough s.reader s.row s.over };
+    ghost invariant = { λ s. IsGoingThrough s.reader s.row s.final_fault };
 }
 
 /// What became of a row, and of no other, of those that are lost with it.
@@ -58,8 +58,8 @@ fn fault_of(salvaged: Salvaged) -> Option<StripFault>
 }
 
 /// The fault with which the rows end after one that was passed, where there may be no more.
-fn over_after(reader: &SalvageReader, salvaged: Salvaged) -> Option<StripFault>
-    ensures { Code.IsOverAfter reader.now salvaged result }
+fn final_fault_after(reader: &SalvageReader, salvaged: Salvaged) -> Option<StripFault>
+    ensures { Code.IsFinalFaultAfter reader.now salvaged result }
 {
     if reader.row() == MOST_ROWS {
         fault_of(salvaged)
@@ -88,7 +88,7 @@ impl<'a> UncountedSalvage<'a> {
         Ok(UncountedSalvage {
             reader,
             row: 0,
-            over: None,
+            final_fault: None,
         })
     }
 
@@ -101,7 +101,7 @@ impl<'a> UncountedSalvage<'a> {
     {
         self.reader.restart(bytes, MOST_ROWS);
         self.row = 0;
-        self.over = None;
+        self.final_fault = None;
     }
 
     /// What became of the next row. It takes no memory. A row that is found is the reference then.
@@ -113,7 +113,7 @@ impl<'a> UncountedSalvage<'a> {
     pub fn next_salvaged(&mut self) -> Result<Salvaged, RowsEnd>
         ensures { IsUncountedStep self.old result self.new }
     {
-        if let Some(fault) = self.over {
+        if let Some(fault) = self.final_fault {
             return Err(RowsEnd::Fault(fault));
         }
         match self.reader.rows_end() {
@@ -124,7 +124,7 @@ impl<'a> UncountedSalvage<'a> {
             return Err(RowsEnd::TooMany);
         };
         self.row += 1;
-        self.over = over_after(&self.reader, salvaged);
+        self.final_fault = final_fault_after(&self.reader, salvaged);
         Ok(alone(salvaged))
     }
 

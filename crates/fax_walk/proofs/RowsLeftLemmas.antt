@@ -201,27 +201,27 @@ module _ (leaves : LeavesUncounted) (old new : UncountedState) (bytes : Bor (Lis
 
   -- there is something left
   rest_left : new.row ≤ new.strip.form.rows → (rows : List PageRow) × AreLeftNow NewLeft rows
-  rest_left within = by_over new.over
+  rest_left within = by_fault new.final_fault
       (λ fault. ([], Fault fault, (refl, refl)))
       (let own = leaves.one new.strip.form new.row new.strip.before new.strip.reference new.strip.upcoming within in
       (own.rows, own.end, own.are))
     where
       Left_ : Option StripFault → Type 0
-      Left_ over =
+      Left_ final_fault =
           (own : List SalvagedRow) × (end : RowsEnd)
-          × MatchOption over
+          × MatchOption final_fault
           (AreLeftUncounted new.strip.form new.row new.strip.before new.strip.reference new.strip.upcoming own end)
           (λ fault. (own ≡ []) × (end ≡ Fault fault))
 
-      by_over : (over : Option StripFault) → ((fault : StripFault) → Left_ (Some fault)) → Left_ None
+      by_fault : (final_fault : Option StripFault) → ((fault : StripFault) → Left_ (Some fault)) → Left_ None
           → (rows : List PageRow)
           × ((own : List SalvagedRow) × (end : RowsEnd)
-          × MatchOption over
+          × MatchOption final_fault
           (AreLeftUncounted new.strip.form new.row new.strip.before new.strip.reference new.strip.upcoming own end)
           (λ fault. (own ≡ []) × (end ≡ Fault fault))
           × (rows ≡ map strip_row own))
-      by_over None over none = (map strip_row none.0, (none.0, none.1, none.2, refl))
-      by_over (Some fault) over none = grind arith
+      by_fault None ended none = (map strip_row none.0, (none.0, none.1, none.2, refl))
+      by_fault (Some fault) ended none = grind arith
 
   -- one row is passed
   one_over : (row : SalvagedRow) (its : PageRow) → strip_row row ≡ its → PassesUncounted old row new

@@ -8,7 +8,7 @@ use Rattle.std.specs.Prelude.{◌^◌}
 use Rattle.fax_rows.specs.Rows.{Colour}
 use Rattle.fax_walk.specs.declared.salvage.SalvageItem.{SalvageItem}
 use Rattle.fax_walk.specs.declared.salvage.SalvageItem.TheVariants as Item
-use Rattle.fax_walk.specs.views.SalvageItems.{SalvageView, YieldsRemaining, IsNextLeft, item_of}
+use Rattle.fax_walk.specs.views.SalvageItems.{SalvageView, YieldsRemaining, IsBetweenPages, IsNextLeft, item_of}
 use Rattle.std.proofs.Common.{zero}
 use Rattle.fax_page.specs.laws.Salvage.{SalvagesStripsOneWay}
 use Rattle.fax_walk.specs.laws.Salvaged.{IsSalvagedOneWay}
@@ -86,6 +86,11 @@ dropped_at [] (suc n) q is = cc
 dropped_at (x ∷ offsets) zero q is = cc
 dropped_at (x ∷ offsets) (suc n) q is = grind (arith, dropped_at offsets n q is)
 
+-- what stands after the first items
+drop_front : (front rest : List SalvagedItem) → drop (length front) (front ++ rest) ≡ rest
+drop_front [] rest = refl
+drop_front (x ∷ front) rest = drop_front front rest
+
 -- so many items were returned of whole pages
 few_whole : (chain : ChainState) (page : Option SalvagePageState) (yielded : ℕ) → AreFewYielded chain page yielded
     → yielded ≤ chain.yielded * most_rows
@@ -151,6 +156,23 @@ module _ (file : List ℕ) (laws : KnowsFile file) (chain : ChainState) (page : 
         let same : items ≡ done.0 =
         laws.one.one items is ∙ sym (laws.one.one (done.0 ++ []) done.2) ∙ append-nil done.0 in
         ap length same ∙ done.1
+
+    -- what is left is that of whole pages
+    pub between_pages : IsBetweenPages file yielded
+    between_pages =
+        let rest = pages_left laws.salvages chain.tiff.head.endian file chain.yielded (drop chain.yielded offsets) in
+        let done = sound.handed rest.0 ([], rest.0, ended, rest.1, refl) in (
+          chain.tiff.head,
+          chain.yielded,
+          chained.head,
+          λ items is.
+              let same : items ≡ done.0 ++ rest.0 = laws.one.one items is ∙ sym (laws.one.one (done.0 ++ rest.0) done.2)
+              in
+              let left : drop yielded items ≡ rest.0 =
+              ap (λ n. drop n items) (sym done.1) ∙ ap (drop (length done.0)) same ∙ drop_front done.0 rest.0 in
+              subst (ArePagesLeft chain.tiff.head.endian file chain.yielded (drop chain.yielded offsets)) (sym left)
+              rest.1,
+        )
 
     module _ (q : ℕ) (new : ChainState) (next : IsDirectoryNext chain q new) (few : chain.yielded < 2 ^ 32) where
       new_given : new.yielded ≡ chain.yielded + 1
@@ -386,6 +408,11 @@ module _ {old : SalvageView} {file : List ℕ} {chain : ChainState} {yielded : �
   none_left : IsLastPassed chain → (items : List SalvagedItem) → IsSalvaged old.file items → length items ≡ old.yielded
   none_left last = rw (is.same_file, is.same_given) at
       (all_handed file is.laws chain None yielded is.sound.handed_out refl last)
+
+  -- memory is refused for the next page
+  pub refused_memory : IsBetweenPages old.file old.yielded
+  refused_memory = rw (is.same_file, is.same_given) at
+      (between_pages file is.laws chain None yielded is.sound.handed_out refl)
 
   pub ends_there : IsNextPage chain Ends
       → IsNextLeft old (Ok None) (record { file = file; yielded = yielded; last = None; whole = whole })

@@ -16,6 +16,7 @@ mod source;
 mod vertical_indexes;
 mod verticals;
 mod window;
+mod zero_runs;
 
 pub use bit_reversal::reverse_bits;
 pub use codes::{CodeEntry, CodeFault, CodeTable, read_code};

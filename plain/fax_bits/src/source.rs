@@ -3,6 +3,7 @@
 
 use crate::FillOrder;
 use crate::window::Window;
+use crate::zero_runs::skip_short_zeros;
 use kit_std::marker::Model;
 
 /// A place in the bits of some bytes. Contracts see the bits from there on and the number of bits
@@ -192,6 +193,19 @@ impl<'a> BitSource<'a> {
         // By its fields, so that the window that is gone on with need not stand in memory.
         let window = Window::at_bit_offset(self.bytes, self.order, place);
         self.window = window.fork();
+    }
+
+    /// Advances by some bits, at none of which eleven zeros begin, as an EOL does (T.4, section
+    /// 4.1.2): to where they may, as a word at a time tells, or near the end of the bytes.
+    #[inline(never)]
+    // ensures { SkipsShortZeros self.old self.new }
+    pub fn skip_short_zeros(&mut self) {
+        let place = self.window.place();
+        let byte = (place / 8) as usize;
+        let at = skip_short_zeros(self.bytes, byte, self.order);
+        if at > byte {
+            self.skip_to(at as u64 * 8);
+        }
     }
 
     /// What `skip` does past bits that are not loaded.

@@ -106,7 +106,7 @@ impl<'a> Directory<'a> {
         Ok(self.page_and_strips()?.0)
     }
 
-    /// The form of the page, as `page` has it, and the places of its strips, by one pass over the
+    /// The form of the page, as `page` has it, and where its strips stand, by one pass over the
     /// entries.
     // ensures form { IfOk result (λ page. form_of self.now ≡ Ok page.0) }
     // ensures fault { IfErr result (λ fault. form_of self.now ≡ Err fault) }

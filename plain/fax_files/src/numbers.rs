@@ -11,14 +11,14 @@ pub(crate) struct File<'a> {
     pub endian: Endian,
 }
 
-/// Whether the `len` bytes from a place on lie in the file.
+/// Whether the `len` bytes from an offset on lie in the file.
 // ensures { result ≡ lies_inside file.now offset len }
 pub(crate) fn is_inside(file: &[u8], offset: usize, len: usize) -> bool {
     offset <= file.len() && len <= file.len() - offset
 }
 
 impl<'a> File<'a> {
-    /// The number of two bytes at a place.
+    /// The number of two bytes at an offset.
     // requires { offset + 2 ≤ length self.now.bytes.now }
     // ensures { result ≡ number_at self.now.endian 2 self.now.bytes.now offset }
     pub fn u16_at(&self, offset: usize) -> u16 {
@@ -29,7 +29,7 @@ impl<'a> File<'a> {
         }
     }
 
-    /// The number of four bytes at a place.
+    /// The number of four bytes at an offset.
     // requires { offset + 4 ≤ length self.now.bytes.now }
     // ensures { result ≡ number_at self.now.endian 4 self.now.bytes.now offset }
     pub fn u32_at(&self, offset: usize) -> u32 {

@@ -32,7 +32,7 @@ struct Resolution {
 
 impl Model for Resolution {}
 
-/// The form of a page and the places of its strips, or its first fault.
+/// The form of a page and where its strips stand, or its first fault.
 // ensures form { IfOk result (λ page. form_of fields.now ≡ Ok page.0) }
 // ensures fault { IfErr result (λ fault. form_of fields.now ≡ Err fault) }
 // ensures limits { IfOk result (λ page. IsPageForm page.0) }

@@ -7,7 +7,7 @@ use crate::entries::Entry;
 use crate::numbers::is_inside;
 use kit_std::marker::Model;
 
-/// The places of a page's strips: two entries of its directory, with a value for each strip.
+/// Where the strips of a page stand: two entries of its directory, with a value for each strip.
 pub struct Strips<'a> {
     directory: Directory<'a>,
     count: u32,
@@ -19,7 +19,7 @@ impl<'a> Model for Strips<'a> {}
 
 impl<'a> Strips<'a> {
     /// The strips of the page with this directory.
-    // requires { AreStripPlaces directory count offsets byte_counts }
+    // requires { AreStripEntries directory count offsets byte_counts }
     // ensures directory { result.directory ≡ directory.entry }
     // ensures count { result.count ≡ count }
     pub(crate) fn new(
@@ -57,8 +57,7 @@ impl<'a> Strips<'a> {
     // ensures outside { OnErr result (bytes_of self.now.directory s ≡ None) }
     // ensures fault { IfErr result (λ fault. fault ≡ FileFault.StripOutside) }
     pub fn bytes(&self, s: u32) -> Result<&'a [u8], FileFault> {
-        // A byte count of 0 at an offset past the file's end is refused too: zero bytes have a
-        // place.
+        // A byte count of 0 at an offset past the file's end is refused too.
         let file = self.directory.file();
         let offset = file.value_at(&self.offsets, s) as usize;
         let len = file.value_at(&self.byte_counts, s) as usize;

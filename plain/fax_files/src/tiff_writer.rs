@@ -50,11 +50,11 @@ pub struct PageBytes {
 // ensures bytes { IfOk result (λ page. page.bytes.items
 //     ≡ page_bytes start total number form.now (Spec.contents strips.now)) }
 // ensures directory { IfOk result (λ page. page.directory
-//     ≡ directory_place start (Spec.contents strips.now)) }
+//     ≡ directory_offset start (Spec.contents strips.now)) }
 // ensures link { IfOk result (λ page. page.link ≡ page.directory + to_link) }
 // ensures within { IfOk result (λ page. start + length page.bytes.items ≤ max_file) }
-// ensures too_large { (result ≡ Err WriteFault.OutputTooLarge) → max_file
-//     < start + length (page_bytes start total number form.now (Spec.contents strips.now)) }
+// ensures too_large { (result ≡ Err WriteFault.OutputTooLarge) ↔ (max_file
+//     < start + length (page_bytes start total number form.now (Spec.contents strips.now))) }
 pub fn write_page(
     alloc: Global,
     form: &PageForm,

@@ -15,7 +15,8 @@ pub const MAX_FILE: u32 = 268_435_456;
 
 /// The number of fields of a directory.
 const FIELDS: usize = 16;
-/// How far after a directory's place its next offset stands: after the number of its fields, and
+/// How far after a directory's first byte its next offset stands: after the number of its fields,
+/// and
 /// twelve bytes of each.
 pub(crate) const TO_NEXT_OFFSET: u32 = 2 + 12 * FIELDS as u32;
 /// How far after it the fraction of XResolution stands.
@@ -77,7 +78,7 @@ fn short_field(tag: u16, n: u16) -> Field {
     }
 }
 
-/// A field of LONGs: the one that there is, or the place of the first.
+/// A field of LONGs: the one that there is, or the offset of the first.
 // ensures { result ≡ SparseBytes.long_field tag count n }
 fn long_field(tag: u16, count: u32, n: u32) -> Field {
     Field {
@@ -88,7 +89,7 @@ fn long_field(tag: u16, count: u32, n: u32) -> Field {
     }
 }
 
-/// A field of one fraction, which stands at a place.
+/// A field of one fraction, which stands at an offset.
 // ensures { result ≡ SparseBytes.rational_field tag offset }
 fn rational_field(tag: u16, offset: u32) -> Field {
     Field {
@@ -127,20 +128,20 @@ fn fill_order(order: FillOrder) -> u16 {
     }
 }
 
-/// Where a page is written: its number of how many, the place of its directory, and its strips.
+/// Where a page is written: its number of how many, the offset of its directory, and its strips.
 #[derive(Clone, Copy)]
 pub(crate) struct Layout {
     /// The number of pages.
     pub total: u16,
     /// The number of this page, from 0.
     pub number: u16,
-    /// The place of the directory.
+    /// The offset of the directory.
     pub directory: u32,
     /// The number of strips.
     pub strips: u32,
-    /// The value of StripOffsets: the one offset, or the place of the first.
+    /// The value of StripOffsets: the one offset, or the offset of the first.
     pub offsets: u32,
-    /// The value of StripByteCounts: the one byte count, or the place of the first.
+    /// The value of StripByteCounts: the one byte count, or the offset of the first.
     pub byte_counts: u32,
 }
 
@@ -164,7 +165,7 @@ fn put_rational(out: &mut Vec<u8>, value: (u32, u32)) -> Result<(), AllocError> 
 // requires { at.now.directory ≤ max_file }
 // ensures { result ≡ laid_out_fields at.now form.now }
 fn page_fields(form: &PageForm, at: &Layout) -> [Field; FIELDS] {
-    // The places of a directory's parts are computed from `FIELDS`, in the definitions too: one
+    // The offsets of a directory's parts are computed from `FIELDS`, in the definitions too: one
     // more field is a line in each, and the two counts.
     [
         long_field(tags::NEW_SUBFILE_TYPE, 1, 2),
@@ -203,7 +204,7 @@ fn put_directory(out: &mut Vec<u8>, fields: &[Field]) -> Result<(), AllocError> 
     push_u32(out, 0)
 }
 
-/// Appends the offsets of strips that begin at a place.
+/// Appends the offsets of strips that begin at an offset.
 // requires { start + length (SparseBytes.joined_strips (contents strips.now)) < 4294967296 }
 // ensures { OnOk result (out.new.items
 //     ≡ out.old.items ++ SparseBytes.longs (Spec.offsets_from start (contents strips.now))) }
@@ -238,7 +239,7 @@ fn put_strips(out: &mut Vec<u8>, strips: &[Vec<u8>]) -> Result<(), AllocError> {
     Ok(())
 }
 
-/// The strips of a page that is written, which begin and end at these places of the file.
+/// The strips of a page that is written, which begin and end at these offsets of the file.
 #[derive(Clone, Copy)]
 pub(crate) struct StripsAt<'a> {
     pub strips: &'a [Vec<u8>],
@@ -246,7 +247,7 @@ pub(crate) struct StripsAt<'a> {
     pub end: u32,
 }
 
-/// The bytes of a page that stand after its strips: a zero byte to an even place, the directory,
+/// The bytes of a page that stand after its strips: a zero byte to an even offset, the directory,
 /// and the values that do not fit it.
 // requires end { placed.end
 //     ≡ placed.start + length (SparseBytes.joined_strips (contents placed.strips.now)) }
@@ -276,7 +277,7 @@ pub(crate) fn page_tail(
     Ok(tail)
 }
 
-/// How many bytes a file has whose last page has its directory at this place, and so many strips.
+/// How many bytes a file has whose last page has its directory at this offset, and so many strips.
 // ensures { result ≡ end_of_page directory strips }
 pub(crate) fn page_end(directory: u32, strips: u32) -> u64 {
     let arrays = if strips == 1 {
@@ -319,14 +320,14 @@ pub(crate) fn append(bytes: &mut Vec<u8>, strips: &[Vec<u8>], tail: &[u8]) -> Re
     bytes.extend_from_slice(tail)
 }
 
-/// Sets the four bytes at a place.
+/// Sets the four bytes at an offset.
 // requires { offset + 4 ≤ length bytes.old }
 // ensures { bytes.new ≡ SparseBytes.with_four_at bytes.old offset n }
 fn set_u32(bytes: &mut [u8], offset: usize, n: u32) {
     bytes[offset..offset + 4].copy_from_slice(&u32_bytes(n));
 }
 
-/// The place after strips that begin at a place, if it is within the limit of a file.
+/// The offset after strips that begin at an offset, if it is within the limit of a file.
 // requires { start ≤ max_file }
 // ensures found { IfSome result (λ end. end
 //     ≡ start + length (SparseBytes.joined_strips (contents strips.now))) }
@@ -344,7 +345,7 @@ pub(crate) fn strips_end(start: u32, strips: &[Vec<u8>]) -> Option<u32> {
     Some(end)
 }
 
-/// Sets the four bytes at a place of a file.
+/// Sets the four bytes at an offset of a file.
 // requires { offset + 4 ≤ length bytes.old.items }
 // ensures { bytes.new.items ≡ SparseBytes.with_four_at bytes.old.items offset n }
 pub(crate) fn set_link(bytes: &mut Vec<u8>, offset: usize, n: u32) {

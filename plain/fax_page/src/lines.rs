@@ -181,7 +181,9 @@ pub(crate) fn begins_below_eleven(source: &BitSource) -> bool {
 /// Where the first EOL begins: its eleven zeros and its 1 (T.4, section 4.1.2).
 // ensures { IsFirstEol source.old result }
 fn first_eol(source: &mut BitSource) -> Option<u64> {
-    while let Some(zeros) = source.zeros() {
+    loop {
+        source.skip_short_zeros();
+        let zeros = source.zeros()?;
         // For the proof, as in `read_eol`.
         let remaining = source.remaining();
         prove!(zeros < remaining);
@@ -190,7 +192,6 @@ fn first_eol(source: &mut BitSource) -> Option<u64> {
             return Some(source.place() - (EOL_ZEROS + 1));
         }
     }
-    None
 }
 
 /// Where the next EOL begins after row `i`, which begins at this source and is lost: after its own

@@ -14,7 +14,7 @@ pub struct UncountedSalvage<'a> {
     /// How many rows were passed.
     row: u32,
     /// The fault with which the rows end, once a row was lost after which none is expected.
-    over: Option<StripFault>,
+    final_fault: Option<StripFault>,
 }
 
 impl<'a> Model for UncountedSalvage<'a> {}
@@ -40,8 +40,8 @@ fn fault_of(salvaged: Salvaged) -> Option<StripFault> {
 }
 
 /// The fault with which the rows end after one that was passed, where there may be no more.
-// ensures { Code.IsOverAfter reader.now salvaged result }
-fn over_after(reader: &SalvageReader, salvaged: Salvaged) -> Option<StripFault> {
+// ensures { Code.IsFinalFaultAfter reader.now salvaged result }
+fn final_fault_after(reader: &SalvageReader, salvaged: Salvaged) -> Option<StripFault> {
     if reader.row() == MOST_ROWS {
         fault_of(salvaged)
     } else {
@@ -68,7 +68,7 @@ impl<'a> UncountedSalvage<'a> {
         Ok(UncountedSalvage {
             reader,
             row: 0,
-            over: None,
+            final_fault: None,
         })
     }
 
@@ -80,7 +80,7 @@ impl<'a> UncountedSalvage<'a> {
     pub fn restart(&mut self, bytes: &'a [u8]) {
         self.reader.restart(bytes, MOST_ROWS);
         self.row = 0;
-        self.over = None;
+        self.final_fault = None;
     }
 
     /// What became of the next row. It takes no memory. A row that is found is the reference then.
@@ -91,7 +91,7 @@ impl<'a> UncountedSalvage<'a> {
     /// How the rows end, where none is expected. Each later call returns the same.
     // ensures { IsUncountedStep self.old result self.new }
     pub fn next_salvaged(&mut self) -> Result<Salvaged, RowsEnd> {
-        if let Some(fault) = self.over {
+        if let Some(fault) = self.final_fault {
             return Err(RowsEnd::Fault(fault));
         }
         match self.reader.rows_end() {
@@ -102,7 +102,7 @@ impl<'a> UncountedSalvage<'a> {
             return Err(RowsEnd::TooMany);
         };
         self.row += 1;
-        self.over = over_after(&self.reader, salvaged);
+        self.final_fault = final_fault_after(&self.reader, salvaged);
         Ok(alone(salvaged))
     }
 

@@ -30,15 +30,16 @@ stretches_of (Some stretch) = stretch_lost stretch ∷ []
 pub record IsAhead (old : RowsFromView) (page row : ℕ) (ahead : SkippedRows) (new : RowsFromView) :
     Type 0
   where
-    pub over : List PageRow
-    pub passes : PassesOver old over new
-    pub row_is : ahead.row ≡ row + length over
+    pub passed : List PageRow
+    pub passes : PassesOver old passed new
+    pub row_is : ahead.row ≡ row + length passed
     pub lost_are : (rows : List PageRow) → (ahead.found ≡ false → rows ≡ [])
-        → lost_from page row (over ++ rows)
+        → lost_from page row (passed ++ rows)
         ≡ stretches_of ahead.lost ++ lost_from page ahead.row rows
-    pub found : ahead.found ≡ true → (found_of over ≡ new.last ∷ []) × EndsFound over
+    pub found : ahead.found ≡ true → (found_of passed ≡ new.last ∷ []) × EndsFound passed
         × (new.reader.before ≡ None) × EndsWithPage new
-    pub ended : ahead.found ≡ false → (found_of over ≡ []) × (upcoming_row new ≡ new.here.form.rows)
+    pub ended : ahead.found ≡ false → (found_of passed ≡ []) × (upcoming_row new
+      ≡ new.here.form.rows)
         × ((rows : List PageRow) → AreLeftNow new rows → rows ≡ [])
 
 -- the first rows that are left are written

@@ -62,30 +62,30 @@ pub record IsFullAfter (page r stride len room : ℕ) (rows : List PageRow) : Ty
 -- why no more is written after these rows: they are the first after which no more has room; or no
 -- other row is left of the page, and after none of them was that so
 abbrev pub StopsAfter : ℕ → ℕ → ℕ → ℕ → ℕ → List PageRow → List PageRow → Stop → Type 0
-StopsAfter page r stride len room over rest Done =
-    IsFullAfter page r stride len room over
-    × ((first others : List PageRow) → over ≡ first ++ others → others ≢ []
+StopsAfter page r stride len room passed rest Done =
+    IsFullAfter page r stride len room passed
+    × ((first others : List PageRow) → passed ≡ first ++ others → others ≢ []
     → IsFullAfter page r stride len room first → ⊥)
-StopsAfter page r stride len room over rest (Ended EndOfPages) =
+StopsAfter page r stride len room passed rest (Ended EndOfPages) =
     (rest ≡ [])
-    × ((first others : List PageRow) → over ≡ first ++ others
+    × ((first others : List PageRow) → passed ≡ first ++ others
     → IsFullAfter page r stride len room first → ⊥)
-StopsAfter page r stride len room over rest stop = ⊥
+StopsAfter page r stride len room passed rest stop = ⊥
 
 -- of these rows, which are left from row r of a page on, the first ones are written: those that are
 -- found one after another, each in so many bytes, and the stretches of those that are lost; nothing
 -- else is changed
 pub record AreFirstWritten (page r stride : ℕ) (rows rest : List PageRow) (old : List ℕ)
     (old_lost : List FaxLost) (filled : Filled) (new : List ℕ) (lost : List FaxLost) : Type 0 where
-  pub over : List PageRow
-  pub split : rows ≡ over ++ rest
-  pub count : filled.count ≡ length (found_of over)
-  pub used : filled.used ≡ length (lost_from page r over)
-  pub cursor : filled.cursor ≡ record { page = page; row = r + length over }
-  pub written : new ≡ flat_map (padded_row stride) (found_of over)
+  pub passed : List PageRow
+  pub split : rows ≡ passed ++ rest
+  pub count : filled.count ≡ length (found_of passed)
+  pub used : filled.used ≡ length (lost_from page r passed)
+  pub cursor : filled.cursor ≡ record { page = page; row = r + length passed }
+  pub written : new ≡ flat_map (padded_row stride) (found_of passed)
       ++ drop (filled.count * stride) old
-  pub lost_are : lost ≡ lost_from page r over ++ drop filled.used old_lost
-  pub stops : StopsAfter page r stride (length old) (length old_lost) over rest filled.stop
+  pub lost_are : lost ≡ lost_from page r passed ++ drop filled.used old_lost
+  pub stops : StopsAfter page r stride (length old) (length old_lost) passed rest filled.stop
 
 -- the place after the rows that were written, from which on this is left, and no run but its own is
 -- changed: a place of the page, or the one after its last row

@@ -4,7 +4,7 @@ use Rattle.fax_files.specs.declared.Endian.{Endian}
 use Rattle.fax_files.specs.Directory.{Entry, number_at}
 use Rattle.fax_files.specs.declared.tags.TheConstants as Tags
 
--- the entry of twelve bytes at a place
+-- the entry of twelve bytes at an offset
 abbrev pub entry_at : Endian → List ℕ → ℕ → Entry
 entry_at endian file offset = record {
   tag = number_at endian 2 file offset;

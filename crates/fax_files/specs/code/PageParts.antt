@@ -2,18 +2,18 @@
 use Rattle.std.specs.Prelude.{ℕ, ◌+◌, ◌*◌, List, ◌++◌, length, map, take, drop, flat_map}
 use Rattle.fax_files.specs.Page.{PageForm}
 use Rattle.fax_files.specs.Layout.{two, four, WrittenField, field_of, field_bytes, array_bytes}
-use Rattle.fax_files.specs.Layout.{to_link, one_or_place, fields_with}
+use Rattle.fax_files.specs.Layout.{to_link, one_or_offset, fields_with}
 use Rattle.fax_files.specs.declared.tags.TheConstants as Tags
 
 -- one SHORT, which stands left in the value's four bytes
 abbrev pub short_field : ℕ → ℕ → WrittenField
 short_field tag n = field_of tag Tags.SHORT 1 (two n ++ two 0)
 
--- LONGs: the one that there is, or the place of the first
+-- LONGs: the one that there is, or the offset of the first
 abbrev pub long_field : ℕ → ℕ → ℕ → WrittenField
 long_field tag count n = field_of tag Tags.LONG count (four n)
 
--- the place of a RATIONAL
+-- the offset of a RATIONAL
 abbrev pub rational_field : ℕ → ℕ → WrittenField
 rational_field tag offset = field_of tag Tags.RATIONAL 1 (four offset)
 
@@ -33,7 +33,7 @@ longs numbers = flat_map four numbers
 abbrev pub field_count : ℕ
 field_count = 16
 
--- how far after a directory's place stand XResolution, YResolution, and the strips' offsets where
+-- how far after a directory's offset stand XResolution, YResolution, and the strips' offsets where
 -- there are more than one
 abbrev pub to_x : ℕ
 to_x = to_link + 4
@@ -48,11 +48,11 @@ to_offsets = to_y + 8
 -- lengths
 abbrev pub fields_of : ℕ → ℕ → ℕ → PageForm → List ℕ → List ℕ → List WrittenField
 fields_of q total k form offsets lengths =
-    let offsets_place = q + to_offsets in
-    let lengths_place = offsets_place + 4 * length lengths in
+    let offsets_offset = q + to_offsets in
+    let lengths_offset = offsets_offset + 4 * length lengths in
     fields_with q total k form
-    (long_field Tags.STRIP_OFFSETS (length offsets) (one_or_place offsets offsets_place))
-    (long_field Tags.STRIP_BYTE_COUNTS (length lengths) (one_or_place lengths lengths_place))
+    (long_field Tags.STRIP_OFFSETS (length offsets) (one_or_offset offsets offsets_offset))
+    (long_field Tags.STRIP_BYTE_COUNTS (length lengths) (one_or_offset lengths lengths_offset))
 
 -- a directory of these fields without its last four bytes, the next offset
 abbrev pub fields_bytes : List WrittenField → List ℕ
@@ -68,6 +68,6 @@ abbrev pub values_bytes : PageForm → List ℕ → List ℕ → List ℕ
 values_bytes form offsets lengths =
     rational_bytes form.x ++ rational_bytes form.y ++ array_bytes offsets ++ array_bytes lengths
 
--- a file with its four bytes at a place set to a number
+-- a file with its four bytes at an offset set to a number
 abbrev pub with_four_at : List ℕ → ℕ → ℕ → List ℕ
 with_four_at file offset n = take offset file ++ four n ++ drop (offset + 4) file

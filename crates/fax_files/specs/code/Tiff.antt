@@ -5,7 +5,7 @@ use Rattle.fax_files.specs.declared.tags.TheConstants as Tags
 use Rattle.fax_files.specs.views.Tiff.{TiffDirectory}
 
 -- the entries of a page's strips, each with a value for each strip
-pub record AreStripPlaces (directory : TiffDirectory) (count : ℕ)
+pub record AreStripEntries (directory : TiffDirectory) (count : ℕ)
     (offsets counts : Entry) : Type 0 where
   pub offsets_are : field (entries directory.endian directory.file directory.offset)
       Tags.STRIP_OFFSETS ≡ Some offsets

@@ -36,7 +36,7 @@ pub record IsWriting (writing : Writing) : Type 0 where
   pub header : 8 ≤ length writing.written.bytes
   pub limit : length writing.written.bytes ≤ max_file
 
--- how many bytes a file has whose last page has its directory at this place, and so many strips
+-- how many bytes a file has whose last page has its directory at this offset, and so many strips
 abbrev pub page_end : ℕ → ℕ → ℕ
 page_end directory strips = directory + to_offsets + (if strips == 1 then 0 else (8 * strips))
 

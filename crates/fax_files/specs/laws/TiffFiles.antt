@@ -22,7 +22,7 @@ use Rattle.fax_files.specs.declared.Endian.TheVariants.{Little}
 use Rattle.fax_files.specs.Directory.{ChainRead, Header, header, is_directory, max_file}
 use Rattle.fax_files.specs.Directory.{next_offset, number_at, read_chain}
 use Rattle.fax_files.specs.views.Page.{IsPageForm}
-use Rattle.fax_files.specs.Layout.{four, directory_place, Written, with_page, WrittenPage, file_of}
+use Rattle.fax_files.specs.Layout.{four, directory_offset, Written, with_page, WrittenPage, file_of}
 use Rattle.fax_files.specs.Layout.{with_pages}
 use Rattle.fax_files.specs.views.Writing.{empty_file}
 use Rattle.std.specs.Prelude.{◌≡◌, ◌≤◌, ℕ, ◌+◌, ◌*◌, if◌then◌else◌, List, [], ◌∷◌}
@@ -105,7 +105,7 @@ pub record IsOpen (old : Written) : Type 0 where
   pub zero : take 4 (drop old.link old.bytes) ≡ four 0
 
 -- a page is appended: what stood before keeps its place but for the link, which holds the
--- directory's place; the directory is whole and the last one; the page is read as it was written
+-- directory's offset; the directory is whole and the last one; the page is read as it was written
 pub record IsAppended (old new : Written) (q : ℕ) (written : WrittenPage) : Type 0 where
   pub link : number_at Little 4 new.bytes old.link ≡ q
   pub kept : (offset n : ℕ) → offset + n ≤ length old.bytes
@@ -121,7 +121,7 @@ AppendedPagesAreRead =
     (old : Written) (total k : ℕ) (written : WrittenPage) → IsOpen old → IsWritable written
     → length (with_page old total k written.form written.strips).bytes ≤ max_file
     → IsAppended old (with_page old total k written.form written.strips)
-    (directory_place (length old.bytes) written.strips) written
+    (directory_offset (length old.bytes) written.strips) written
 
 -- a file is read as these pages: its chain is the pages' directories and ends properly
 pub record IsReadAs (file : List ℕ) (pages : List WrittenPage) : Type 0 where

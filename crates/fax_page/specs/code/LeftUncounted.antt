@@ -24,17 +24,17 @@ fault_of (Lost fault rows) = Some fault
 fault_of (Unterminated rows) = Some MissingEol
 
 -- the fault with which the rows end after one that was passed, where a strip has no more
-abbrev pub IsOverAfter : SalvageState → Salvaged → Option StripFault → Type 0
-IsOverAfter strip salvaged over =
-    ((strip.row ≡ most_rows) × (over ≡ fault_of salvaged))
-    ⊎ ((strip.row ≢ most_rows) × (over ≡ None))
+abbrev pub IsFinalFaultAfter : SalvageState → Salvaged → Option StripFault → Type 0
+IsFinalFaultAfter strip salvaged final_fault =
+    ((strip.row ≡ most_rows) × (final_fault ≡ fault_of salvaged))
+    ⊎ ((strip.row ≢ most_rows) × (final_fault ≡ None))
 
 -- rows of a strip of unknown height are gone through as a strip of the most rows
-pub record IsGoingThrough (strip : SalvageState) (row : ℕ) (over : Option StripFault)
+pub record IsGoingThrough (strip : SalvageState) (row : ℕ) (final_fault : Option StripFault)
     : Type 0 where
   pub most : strip.form.rows ≡ most_rows
   pub few : row ≤ most_rows
-  pub upcoming : over ≡ None → row ≡ strip.row
+  pub upcoming : final_fault ≡ None → row ≡ strip.row
 
 -- so many rows are passed, and others are left
 pub record HasPassed (old : UncountedState) (now : UncountedState) : Type 0 where

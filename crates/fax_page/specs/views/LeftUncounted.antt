@@ -17,17 +17,17 @@ use Rattle.fax_page.specs.views.Salvage.{SalvageState, salvage_beginning}
 pub record UncountedState : Type 0 where
   pub strip : SalvageState
   pub row : ℕ
-  pub over : Option StripFault
+  pub final_fault : Option StripFault
 
 -- before the first row of these bits
 abbrev pub uncounted_beginning : StripForm → List Bool → UncountedState
 uncounted_beginning form b =
-    record { strip = salvage_beginning (uncounted form) b; row = 0; over = None }
+    record { strip = salvage_beginning (uncounted form) b; row = 0; final_fault = None }
 
 -- what is left from the next row on, and how the rows end
 abbrev pub AreLeftFrom : UncountedState → List SalvagedRow → RowsEnd → Type 0
 AreLeftFrom state rows end =
-    MatchOption state.over
+    MatchOption state.final_fault
     (AreLeftUncounted state.strip.form state.row state.strip.before state.strip.reference
     state.strip.upcoming rows end)
     (λ fault. (rows ≡ []) × (end ≡ Fault fault))

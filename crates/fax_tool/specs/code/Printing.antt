@@ -19,25 +19,24 @@ end_of CursorOutside = Some Outside
 end_of NoRoom = None
 
 -- a run begins with this that continues after so many of such lines, which began so
-pub record IsNextAfter (tail : List PrintedLine → End → Type 0) (origin : WalkStart) (given : ℕ)
+pub record IsNextAfter (tail : List PrintedLine → End → Type 0) (origin : WalkStart) (count : ℕ)
     (next : WalkStart) : Type 0 where
   pub lines : List PrintedLine
   pub end : End
   pub is : tail lines end
-  pub within : given ≤ length lines
-  pub next_is : next ≡ next_after origin (take given lines)
+  pub within : count ≤ length lines
+  pub next_is : next ≡ next_after origin (take count lines)
 
--- line number `yielded` is collected, or the lines have ended after so many; where memory was
--- refused
+-- line number `count` is collected, or the lines have ended after so many; where memory was refused
 -- the text is as it was
 abbrev pub IsLinePut : (List PrintedLine → End → Type 0) → ℕ → List ℕ → Result (Option End) NoMemory
     → ℕ → List ℕ → Type 0
-IsLinePut tail given text (Ok None) new_given new_text =
-    (line : PrintedLine) × IsNumber tail given line × (new_given ≡ given + 1)
+IsLinePut tail count text (Ok None) new_count new_text =
+    (line : PrintedLine) × IsNumber tail count line × (new_count ≡ count + 1)
     × (new_text ≡ text ++ line.text)
-IsLinePut tail given text (Ok (Some end)) new_given new_text =
-    EndsAfter tail given end × (new_given ≡ given) × (new_text ≡ text)
-IsLinePut tail given text (Err memory) new_given new_text = new_text ≡ text
+IsLinePut tail count text (Ok (Some end)) new_count new_text =
+    EndsAfter tail count end × (new_count ≡ count) × (new_text ≡ text)
+IsLinePut tail count text (Err memory) new_count new_text = new_text ≡ text
 
 -- printing ended so after so many lines: with their end, and fewer than the limit, or at the limit
 abbrev pub EndsWith : List PrintedLine → End → ℕ → Option ℕ → Option End → Type 0
@@ -56,15 +55,15 @@ pub record PrintsLines (tail : List PrintedLine → End → Type 0) (max : Optio
 
 -- where to continue after so many of such lines, with long cursors or without
 abbrev pub IsNextLine : (List PrintedLine → End → Type 0) → WalkStart → ℕ → Bool → List ℕ → Type 0
-IsNextLine tail origin given long line =
-    (next : WalkStart) × IsNextAfter tail origin given next × (line ≡ next_line (named long next))
+IsNextLine tail origin count long line =
+    (next : WalkStart) × IsNextAfter tail origin count next × (line ≡ next_line (named long next))
 
 -- what is printed after so many of such lines where printing ended so
 abbrev pub IsLastLine : (List PrintedLine → End → Type 0) → WalkStart → ℕ → Bool → Option End
     → List ℕ
     → Type 0
-IsLastLine tail origin given long None line = IsNextLine tail origin given long line
-IsLastLine tail origin given long (Some EndOfPages) line = line ≡ codes "end\n"
-IsLastLine tail origin given long (Some (Fault page row cause)) line =
-    IsNextLine tail origin given long line
-IsLastLine tail origin given long (Some Outside) line = line ≡ []
+IsLastLine tail origin count long None line = IsNextLine tail origin count long line
+IsLastLine tail origin count long (Some EndOfPages) line = line ≡ codes "end\n"
+IsLastLine tail origin count long (Some (Fault page row cause)) line =
+    IsNextLine tail origin count long line
+IsLastLine tail origin count long (Some Outside) line = line ≡ []

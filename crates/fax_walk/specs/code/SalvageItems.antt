@@ -140,9 +140,9 @@ pub record EntersStrip (old new : RowsState) : Type 0 where
   pub upcoming : new.reader.row ≡ new.reader.form.rows → upcoming_row new ≡ new.form.rows
 
 -- after these rows of a page others are left
-pub record GoesOverRows (old : RowsState) (over : List PageRow) (new : RowsState) : Type 0 where
+pub record GoesOverRows (old : RowsState) (passed : List PageRow) (new : RowsState) : Type 0 where
   pub stays : StaysOnPage old new
-  pub followed : (rows : List PageRow) → AreRowsLeft new rows → AreRowsLeft old (over ++ rows)
+  pub followed : (rows : List PageRow) → AreRowsLeft new rows → AreRowsLeft old (passed ++ rows)
 
 -- a page that is gone through, as contracts see it that begin at a place
 abbrev pub seen_from : RowsState → List Colour → RowsFromView

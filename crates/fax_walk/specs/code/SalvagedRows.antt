@@ -82,10 +82,10 @@ pub record IsGoneOver (remaining : RowSource) : Type 0 where
       × AreLeftOf (its_of remaining) (done ++ rows)
 
 -- these rows are passed
-pub record GoesOver (old : RowSource) (over : List PageRow) (new : RowSource) : Type 0 where
-  pub next : row_of new ≡ row_of old + length over
+pub record GoesOver (old : RowSource) (passed : List PageRow) (new : RowSource) : Type 0 where
+  pub next : row_of new ≡ row_of old + length passed
   pub within : row_of new ≤ rows_of new
-  pub followed : (rows : List PageRow) → AreLeftNow new rows → AreLeftNow old (over ++ rows)
+  pub followed : (rows : List PageRow) → AreLeftNow new rows → AreLeftNow old (passed ++ rows)
 
 -- what became of the next rows
 abbrev pub GoesOverPart : RowSource → Option SalvagedPart → RowSource → Type 0

@@ -1,16 +1,18 @@
 -- A damaged file that is gone through.
 use Rattle.std.specs.Prelude.{◌≡◌, ◌≢◌, ℕ, ◌+◌, ◌<◌, ◌^◌, Bool, true, List, []}
 use Rattle.std.specs.Prelude.{length, Option, Some, None}
-use Rattle.std.specs.Prelude.{Result, Ok, Err, slice_get, unwrap_or}
+use Rattle.std.specs.Prelude.{drop, Result, Ok, Err, slice_get, unwrap_or}
 use Rattle.std.specs.Borrow.{Bor}
 use Rattle.fax_walk.specs.declared.walk.Place.{Place}
 use Rattle.fax_bits.specs.declared.Memory.{Memory}
 use Rattle.fax_rows.specs.Rows.{Colour}
+use Rattle.fax_files.specs.Directory.{Header, header, read_chain}
 use Rattle.fax_walk.specs.declared.salvage.SalvageItem.{SalvageItem}
 use Rattle.fax_walk.specs.declared.salvage.SalvageItem.TheVariants.{Row, Lost, Refused}
 use Rattle.fax_walk.specs.Items.{AreItems, RowItem}
 use Rattle.fax_walk.specs.Pages.{EndOfPages}
-use Rattle.fax_walk.specs.Salvaged.{SalvagedItem, row_found, rows_lost, page_refused, IsSalvaged}
+use Rattle.fax_walk.specs.Salvaged.{SalvagedItem, row_found, rows_lost, page_refused, ArePagesLeft}
+use Rattle.fax_walk.specs.Salvaged.{IsSalvaged}
 
 -- what is returned of a file, with the row that was found last
 abbrev pub item_of : SalvageItem → List Colour → SalvagedItem
@@ -47,12 +49,21 @@ pub record YieldsRemaining (old : SalvageView) (item : SalvageItem) (new : Salva
     pub item_is : (items : List SalvagedItem) → IsSalvaged old.file items
         → slice_get items old.yielded ≡ Some (item_of item (unwrap_or new.last []))
 
+-- so many items of a file are all those of its first pages: the others are what is left from page p
+-- on
+abbrev pub IsBetweenPages : List ℕ → ℕ → Type 0
+IsBetweenPages file yielded =
+    (head : Header) × (p : ℕ) × (header file ≡ Ok head)
+    × ((items : List SalvagedItem) → IsSalvaged file items
+    → ArePagesLeft head.endian file p (drop p (read_chain head file).offsets) (drop yielded items))
+
 -- what a call for the next item answers: the item; that all were returned, and where nothing is
--- lost the rows of the file end properly; or that memory was refused
+-- lost the rows of the file end properly; or that memory was refused, to enter a page
 abbrev pub IsNextLeft : SalvageView → Result (Option SalvageItem) Memory → SalvageView → Type 0
 IsNextLeft old (Ok (Some item)) new = YieldsRemaining old item new
 IsNextLeft old (Ok None) new =
     ((items : List SalvagedItem) → IsSalvaged old.file items → length items ≡ old.yielded)
     × (new.file ≡ old.file) × (new.yielded ≡ old.yielded)
     × (new.whole ≡ true → (rows : List RowItem) × AreItems old.file rows EndOfPages)
-IsNextLeft old (Err refused) new = (new.file ≡ old.file) × (new.yielded ≡ old.yielded)
+IsNextLeft old (Err refused) new =
+    (new.file ≡ old.file) × (new.yielded ≡ old.yielded) × IsBetweenPages old.file old.yielded

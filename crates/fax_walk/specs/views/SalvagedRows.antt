@@ -67,11 +67,11 @@ pub record IsUncountedStart (form : StripForm) (b : List Bool) (view : RowsView)
   pub start : IsRowsStart (of_uncounted (uncounted form) b) count form.width view
 
 -- these rows are passed, and no others
-pub record PassesRows (old : RowsView) (over : List PageRow) (new : RowsView) : Type 0 where
-  pub next : new.row ≡ old.row + length over
+pub record PassesRows (old : RowsView) (passed : List PageRow) (new : RowsView) : Type 0 where
+  pub next : new.row ≡ old.row + length passed
   pub within : new.row ≤ old.rows
   pub rows_are : (all : List PageRow) → AreLeftOf old.its all
-      → drop old.row all ≡ over ++ drop new.row all
+      → drop old.row all ≡ passed ++ drop new.row all
 
 -- what became of the next rows; or all were passed
 abbrev pub PassesPart : RowsView → Option SalvagedPart → RowsView → Type 0

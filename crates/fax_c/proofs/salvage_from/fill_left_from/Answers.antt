@@ -21,7 +21,7 @@ returns-then-not-ahead c =
 pub overflow_add-count : goal.overflow_add-count
 overflow_add-count c =
     let so_far = c.loop-remaining.invariant in
-    omega (arith, so_far.count_is, found_few so_far.over, so_far.passes.next, so_far.passes.within, c.requires.few)
+    omega (arith, so_far.count_is, found_few so_far.passed, so_far.passes.next, so_far.passes.within, c.requires.few)
 
 pub loop-remaining-preserved : goal.loop-remaining-preserved
 loop-remaining-preserved c =

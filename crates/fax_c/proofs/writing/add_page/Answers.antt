@@ -12,7 +12,7 @@ write_page-requires-clause-strips c =
 pub returns-in-Err-OutputTooLarge : goal.returns-in-Err-OutputTooLarge
 returns-in-Err-OutputTooLarge c =
     let strips = ap contents c.deref.ensures.value ∙ c.in-Ok.ensures in
-    let too_large = c.write_page.ensures.too_large (c.in-Err-OutputTooLarge.is
+    let too_large = c.write_page.ensures.too_large.0 (c.in-Err-OutputTooLarge.is
     ∙ ap Err c.in-Err-OutputTooLarge.field-0-is) in
     let long = rw strips at too_large in
     let len = page_len c.args.written.now c.args.file.now c.args.form.now

@@ -1,21 +1,60 @@
-use Rattle.std.proofs.Common.{◌∙◌, ℕ, List, ◌++◌, ap, arith, length}
+use Rattle.std.proofs.Common.{◌∙◌, ℕ, List, ◌++◌, ap, arith, length, refl}
 use Rattle.fax_files.specs.code.PageParts.{joined_strips}
 use Rattle.fax_files.specs.views.Writing.{contents}
-use Rattle.fax_files.proofs.TiffWriterLemmas.{page_size, page_too_long, whole_page}
+use Rattle.fax_files.proofs.TiffWriterLemmas.{not_too_large, page_size, page_too_long, whole_page}
 use Rattle.fax_files.proofs.tiff_writer.write_page.Goals as goal
 
 pub returns-in_default-clause-too_large : goal.returns-in_default-clause-too_large
-returns-in_default-clause-too_large c = λ _.
-    page_too_long c.args.start c.args.total c.args.number c.args.form.now c.args.strips.now c.requires.header
-    c.requires.limits
-    c.requires.exchanged c.requires.strips c.in_default.ensures.none
+returns-in_default-clause-too_large c =
+    let long = page_too_long c.args.start c.args.total c.args.number c.args.form.now c.args.strips.now
+    c.requires.header c.requires.limits c.requires.exchanged c.requires.strips c.in_default.ensures.none in
+    (λ _. long, λ _. refl)
 
 pub returns-then-page_end-from-clause-too_large : goal.returns-then-page_end-from-clause-too_large
-returns-then-page_end-from-clause-too_large c = λ _.
+returns-then-page_end-from-clause-too_large c =
     let size = page_size c.args.start c.args.total c.args.number c.args.form.now c.args.strips.now c.requires.header
     c.requires.limits
     c.requires.exchanged c.requires.strips c.in-Some.end c.in-Some.ensures.found in
-    omega (arith, size, c.page_end.ensures, c.from.ensures, c.if-page_end-from.true)
+    (λ _. omega (arith, size, c.page_end.ensures, c.from.ensures, c.if-page_end-from.true), λ _. refl)
+
+pub returns-in_default-page_tail-clause-too_large : goal.returns-in_default-page_tail-clause-too_large
+returns-in_default-page_tail-clause-too_large c =
+    let size = page_size c.args.start c.args.total c.args.number c.args.form.now c.args.strips.now c.requires.header
+    c.requires.limits
+    c.requires.exchanged c.requires.strips c.in-Some.end c.in-Some.ensures.found in
+    not_too_large _ _ (λ e. absurd cc) (omega (
+      arith,
+      size,
+      c.page_end.ensures,
+      c.from.ensures,
+      c.if-page_end-from.false,
+    ))
+
+pub returns-in_default-append-clause-too_large : goal.returns-in_default-append-clause-too_large
+returns-in_default-append-clause-too_large c =
+    let size = page_size c.args.start c.args.total c.args.number c.args.form.now c.args.strips.now c.requires.header
+    c.requires.limits
+    c.requires.exchanged c.requires.strips c.in-Some.end c.in-Some.ensures.found in
+    not_too_large _ _ (λ e. absurd cc) (omega (
+      arith,
+      size,
+      c.page_end.ensures,
+      c.from.ensures,
+      c.if-page_end-from.false,
+    ))
+
+pub returns-clause-too_large : goal.returns-clause-too_large
+returns-clause-too_large c =
+    let size = page_size c.args.start c.args.total c.args.number c.args.form.now c.args.strips.now c.requires.header
+    c.requires.limits
+    c.requires.exchanged c.requires.strips c.in-Some.end c.in-Some.ensures.found in
+    not_too_large _ _ (λ e. absurd cc) (omega (
+      arith,
+      size,
+      c.page_end.ensures,
+      c.from.ensures,
+      c.if-page_end-from.false,
+    ))
 
 pub returns-clause-bytes : goal.returns-clause-bytes
 returns-clause-bytes c =

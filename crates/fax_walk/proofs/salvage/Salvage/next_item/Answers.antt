@@ -1,6 +1,8 @@
 use Rattle.std.proofs.Common.{◌<◌, ◌^◌, arith}
+use Rattle.std.proofs.lemmas.Result.{err_from_is_err_and}
 use Rattle.fax_walk.proofs.SalvageFileLemmas.{broken_in_file, broken_there, ends_there, entered_in_file, item_handed}
-use Rattle.fax_walk.proofs.SalvageFileLemmas.{item_in_file, left_in_file, refused_in_file, refused_there}
+use Rattle.fax_walk.proofs.SalvageFileLemmas.{item_in_file, left_in_file, refused_in_file, refused_memory}
+use Rattle.fax_walk.proofs.SalvageFileLemmas.{refused_there}
 use Rattle.fax_walk.proofs.salvage.Salvage.next_item.Goals as goal
 
 pub overflow_add-self : goal.overflow_add-self
@@ -18,6 +20,13 @@ pub invariant_of-self-in_err-next_page : goal.invariant_of-self-in_err-next_page
 invariant_of-self-in_err-next_page c =
     let remaining = left_in_file c.pages.invariant _ _ c.in_default.ensures c.close_page-clean.ensures.clean in
     rw c.close_page-clean.ensures.none remaining.sound
+
+pub returns-in_err-next_page : goal.returns-in_err-next_page
+returns-in_err-next_page c =
+    let remaining = left_in_file c.pages.invariant _ _ c.in_default.ensures c.close_page-clean.ensures.clean in
+    let between = refused_memory (rw c.in-Some-chain.is at remaining) in
+    let p = err_from_is_err_and c.from_residual.result c.from_residual.ensures.1 in
+    rw p.1 (c.pages.invariant.same_file, c.pages.invariant.same_given, between)
 
 pub invariant_of-self-in-Ends : goal.invariant_of-self-in-Ends
 invariant_of-self-in-Ends c =

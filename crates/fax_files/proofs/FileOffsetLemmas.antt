@@ -19,11 +19,11 @@ pub record HasBytesAt (file : List ℕ) (offset : ℕ) (bytes : List ℕ) : Type
   pub before : List ℕ
   pub after : List ℕ
   pub there : file ≡ before ++ (bytes ++ after)
-  pub place_is : length before ≡ offset
+  pub offset_is : length before ≡ offset
 
 -- the same place by another name
-pub at_place : {file : List ℕ} {p q : ℕ} {bytes : List ℕ} → p ≡ q → HasBytesAt file p bytes → HasBytesAt file q bytes
-at_place e h = record { before = h.before; after = h.after; there = h.there; place_is = h.place_is ∙ e }
+pub at_offset : {file : List ℕ} {p q : ℕ} {bytes : List ℕ} → p ≡ q → HasBytesAt file p bytes → HasBytesAt file q bytes
+at_offset e h = record { before = h.before; after = h.after; there = h.there; offset_is = h.offset_is ∙ e }
 
 -- the first part of what stands there
 pub at_left : {file : List ℕ} {p : ℕ} (xs ys : List ℕ) → HasBytesAt file p (xs ++ ys) → HasBytesAt file p xs
@@ -38,7 +38,7 @@ at_right xs ys h = record {
   there =
       h.there ∙ ap (λ (l : List ℕ). h.before ++ l) (append_assoc xs ys h.after)
       ∙ sym (append_assoc h.before xs (ys ++ h.after));
-  place_is = length-append h.before xs ∙ ap (λ (n : ℕ). n + length xs) h.place_is;
+  offset_is = length-append h.before xs ∙ ap (λ (n : ℕ). n + length xs) h.offset_is;
 }
 
 -- bytes that stand at a place lie in the file
@@ -47,11 +47,11 @@ at_inside bytes h = grind (arith, length-append)
 
 -- all that stands from the place on
 pub at_drop : {file : List ℕ} {p : ℕ} (bytes : List ℕ) → (h : HasBytesAt file p bytes) → drop p file ≡ bytes ++ h.after
-at_drop bytes h = ap (drop _) h.there ∙ drop_at h.before (bytes ++ h.after) _ h.place_is
+at_drop bytes h = ap (drop _) h.there ∙ drop_at h.before (bytes ++ h.after) _ h.offset_is
 
 -- a file's first bytes
 pub at_start : (xs ys : List ℕ) → HasBytesAt (xs ++ ys) 0 xs
-at_start xs ys = record { before = []; after = ys; there = refl; place_is = refl }
+at_start xs ys = record { before = []; after = ys; there = refl; offset_is = refl }
 
 -- a file's last bytes
 pub at_end : (xs ys : List ℕ) → HasBytesAt (xs ++ ys) (length xs) ys
@@ -79,7 +79,7 @@ at_slice file p n le = record {
   before = take p file;
   after = drop n (drop p file);
   there = sym (ap (λ (l : List ℕ). take p file ++ l) (take-append-drop n (drop p file)) ∙ take-append-drop p file);
-  place_is = length-take-le p file (omega arith);
+  offset_is = length-take-le p file (omega arith);
 }
 
 pub length-slice : (file : List ℕ) (p n : ℕ) → p + n ≤ length file → length (take n (drop p file)) ≡ n
@@ -105,7 +105,7 @@ pub at_before_patch : {file : List ℕ} {p : ℕ} (bytes : List ℕ) (link n : �
     → HasBytesAt file p bytes → HasBytesAt (with_four_at file link n) p bytes
 at_before_patch {file} {p} bytes link n le h =
     let k : link ≡ length (h.before ++ bytes) + (link - (p + length bytes)) =
-    omega (arith, h.place_is, length-append h.before bytes) in
+    omega (arith, h.offset_is, length-append h.before bytes) in
     let front : take link file ≡ h.before ++ (bytes ++ take (link - (p + length bytes)) h.after) =
     ap (take link) (h.there ∙ sym (append_assoc h.before bytes h.after))
     ∙ ap (λ (m : ℕ). take m ((h.before ++ bytes) ++ h.after)) k
@@ -115,8 +115,8 @@ at_before_patch {file} {p} bytes link n le h =
       before = h.before;
       after = _;
       there = front;
-      place_is =
-          h.place_is;
+      offset_is =
+          h.offset_is;
     } in
     at_grown bytes (drop (link + 4) file) (at_grown bytes (four n) start)
 
@@ -126,16 +126,16 @@ pub at_after_patch : {file : List ℕ} {p : ℕ} (bytes : List ℕ) (link n : �
 at_after_patch {file} {p} bytes link n le h =
     let inside = at_inside bytes h in
     let back : drop (link + 4) file ≡ drop (link + 4) h.before ++ (bytes ++ h.after) =
-    ap (drop (link + 4)) h.there ∙ drop-append-le (link + 4) h.before (bytes ++ h.after) (omega (arith, h.place_is)) in
+    ap (drop (link + 4)) h.there ∙ drop-append-le (link + 4) h.before (bytes ++ h.after) (omega (arith, h.offset_is)) in
     record {
       before = take link file ++ four n ++ drop (link + 4) h.before;
       after = h.after;
       there = ap (λ (l : List ℕ). take link file ++ four n ++ l) back
           ∙ sym (append_assoc (take link file ++ four n) (drop (link + 4) h.before) (bytes ++ h.after));
-      place_is =
+      offset_is =
           omega (
             arith,
-            h.place_is,
+            h.offset_is,
             length-append (take link file ++ four n) (drop (link + 4) h.before),
             length-append (take link file)
                 (four n),
