@@ -1,7 +1,7 @@
 -- Eleven zeros that stand one after another, in a word and in bytes.
 use Rattle.std.proofs.lemmas.Grind.{common_steps}
 use Rattle.std.proofs.Common.{◌≡◌, ℕ, ◌+◌, ◌-◌, ◌*◌, ◌/◌, ◌%◌, ◌^◌, ◌<◌, ◌≤◌, List, ◌++◌, length, take, drop, get_or}
-use Rattle.std.proofs.Common.{Bool, true, false, replicate, nat_eq, refl, sym, ap, ◌∙◌, arith, append_assoc, inl, inr}
+use Rattle.std.proofs.Common.{Bool, false, nat_eq, refl, sym, ap, ◌∙◌, arith, append_assoc, inl, inr}
 use Rattle.std.specs.Prelude.{bit_and}
 use Rattle.std.specs.Int.{bit_at, bit_not, w64}
 use Rattle.std.proofs.lemmas.List.{drop-drop}
@@ -13,7 +13,7 @@ use Rattle.fax_bits.specs.Bits.{FillOrder, bits, code_bits}
 use Rattle.fax_bits.specs.views.Source.{HasElevenZeros, SkipsShortZeros, Source, source_of}
 use Rattle.fax_bits.specs.code.Source.{HasElevenZeroBits}
 use Rattle.fax_bits.proofs.CodeBitsLemmas.{get_or-code_bits, code_bits-add, length-code_bits}
-use Rattle.fax_bits.proofs.SourceLemmas.{length-bits, length-left_of}
+use Rattle.fax_bits.proofs.SourceLemmas.{length-left_of}
 use Rattle.fax_bits.proofs.WordLemmas.{bits-drop, bits-four}
 
 -- n bits of a word from bit i up are 1

@@ -1,4 +1,3 @@
-use Rattle.std.proofs.Common.{sym}
 use Rattle.fax_page.proofs.SalvageLemmas.{eol_found, passed_on, none_left, skips_on}
 use Rattle.fax_page.proofs.lines.first_eol.Goals as goal
 

@@ -1,4 +1,4 @@
-use Rattle.std.proofs.Common.{ap, arith, ◌∙◌}
+use Rattle.std.proofs.Common.{ap, arith}
 use Rattle.fax_bits.specs.views.Source.{Source}
 use Rattle.fax_bits.proofs.SourceLemmas.{length-left_of}
 use Rattle.fax_bits.proofs.ZeroRunLemmas.{skipped}
