@@ -113,7 +113,7 @@ skipped order bytes place at old new is within after none new_is =
       count = at * 8 - old.place;
       within = omega (arith, own, length-left_of order bytes place old is);
       new_is = new_is ∙ ap (λ n. record { remaining = drop (at * 8 - old.place) old.remaining; place = n }) (omega
-        arith);
+          arith);
       none = λ i small zeros.
           let there : drop (place + i) (bits order bytes) ≡ drop i old.remaining =
           sym (drop-drop i place (bits order bytes)) ∙ ap (drop i) left in

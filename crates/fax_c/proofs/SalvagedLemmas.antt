@@ -210,7 +210,7 @@ module _ {remaining now : RowsView} {all : List PageRow} {page stride row at cou
         let bytes : length (flat_map (left_row stride) passed) ≡ 1 * stride =
         rw (alone, fills_stride stride new.last short) (omega arith) in
         more passed 1 next.passes refl next.same_its next.same_rows next.same_width to new_out bytes (rw alone put)
-          count'
+        count'
         None (so_far.closed ++ stretches_of ended) new_lost closed.1 closed.0
         (λ rows. rw (append_assoc so_far.done passed rows, so_far.stretches, ends_so rows, append_assoc))
         (omega (arith, closed.2, so_far.few)) (omega arith)

@@ -200,7 +200,7 @@ still_going strip new row salvaged final_fault most row_is step same low is_fina
             omega (arith, row_next, row_is)
 
     by_step : (salvaged : Salvaged) → IsSalvageStep strip (Some salvaged) new
-      → IsFinalFaultAfter new salvaged final_fault
+        → IsFinalFaultAfter new salvaged final_fault
         → final_fault ≡ None → row + 1 ≡ new.row
     by_step Found finds is_final_fault none =
         let next : new.row ≡ strip.row + 1 = ap (λ (s : SalvageState). s.row) finds.new_is in

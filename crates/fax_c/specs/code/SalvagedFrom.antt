@@ -39,7 +39,7 @@ pub record IsAhead (old : RowsFromView) (page row : ℕ) (ahead : SkippedRows) (
     pub found : ahead.found ≡ true → (found_of passed ≡ new.last ∷ []) × EndsFound passed
         × (new.reader.before ≡ None) × EndsWithPage new
     pub ended : ahead.found ≡ false → (found_of passed ≡ []) × (upcoming_row new
-      ≡ new.here.form.rows)
+        ≡ new.here.form.rows)
         × ((rows : List PageRow) → AreLeftNow new rows → rows ≡ [])
 
 -- the first rows that are left are written

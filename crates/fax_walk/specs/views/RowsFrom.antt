@@ -73,12 +73,12 @@ IsNotStartedFrom page r bits row_before Memory =
 
 -- these rows are passed, and no others
 pub record PassesOver (old : RowsFromView) (passed : List PageRow) (new : RowsFromView) : Type 0
-    where
-  pub same_file : new.file ≡ old.file
-  pub same_here : new.here ≡ old.here
-  pub next : upcoming_row new ≡ upcoming_row old + length passed
-  pub within : upcoming_row new ≤ old.here.form.rows
-  pub followed : (rows : List PageRow) → AreLeftNow new rows → AreLeftNow old (passed ++ rows)
+  where
+    pub same_file : new.file ≡ old.file
+    pub same_here : new.here ≡ old.here
+    pub next : upcoming_row new ≡ upcoming_row old + length passed
+    pub within : upcoming_row new ≤ old.here.form.rows
+    pub followed : (rows : List PageRow) → AreLeftNow new rows → AreLeftNow old (passed ++ rows)
 
 -- after the last row of the page nothing is left of it
 abbrev pub EndsWithPage : RowsFromView → Type 0

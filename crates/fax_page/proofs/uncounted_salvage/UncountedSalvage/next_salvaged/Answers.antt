@@ -11,7 +11,7 @@ invariant_of-self-2 c =
     still_going c.self.inside.reader c.next_salvaged.new.self c.self.inside.row c.in-Some-next_salvaged.salvaged
     c.final_fault_after-self-inside.result c.self.invariant.most row_is c.in-Some-next_salvaged.ensures
     (same_after c.self.inside.reader c.next_salvaged.new.self c.self.inside.row c.final_fault_after-self-inside.result
-      row_is
+    row_is
     c.self.invariant.most upcoming c.in-Some-next_salvaged.salvaged c.in-Some-next_salvaged.ensures)
     upcoming.0 c.final_fault_after-self-inside.ensures
 
@@ -22,8 +22,8 @@ returns c =
     c.rows_end.result
     c.rows_end.ensures c.in-TooMany.is c.in-Some-next_salvaged.ensures in
     passes_so c.self.inside.reader c.next_salvaged.new.self c.self.inside.row c.final_fault_after-self-inside.result
-      row_is
+    row_is
     c.self.invariant.most upcoming c.args.self.now c.self.inside.final_fault c.alone.result
-      c.in-Some-next_salvaged.salvaged
+    c.in-Some-next_salvaged.salvaged
     (sym c.self.view_is) c.in_default.is c.alone.ensures c.in-Some-next_salvaged.ensures
     c.final_fault_after-self-inside.ensures
