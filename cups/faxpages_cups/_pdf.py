@@ -11,7 +11,7 @@ import shutil
 import sys
 import tempfile
 from fractions import Fraction
-from typing import IO, Any, Iterator, List, NamedTuple, Sequence, Tuple, Union
+from typing import IO, Any, Dict, Iterator, List, NamedTuple, Sequence, Tuple, Union
 
 import pikepdf
 
@@ -30,6 +30,9 @@ _SIDE, _LINE, _LETTER = 14400.0, 14.0, 5.0
 _LINES = 6
 # The line after those.
 _UNSEEN = "faxpages: a row above missing ones may be wrong too: no reader sees damage that makes other codes"
+# CleanFaxData where bad rows stand in the data, and what the receiver has done with them, by whether they do.
+_LEFT = 2
+_DONE = {False: "mended", True: "left bad"}
 # Fields by which a TIFF file is another picture, and no fax: BitsPerSample, Compression, SamplesPerPixel.
 _NO_FAX = (258, 259, 277)
 # Options that pdftopdf sees to, after a filter that would too.
@@ -86,6 +89,27 @@ def forms(fax: Fax) -> Iterator[Union[Page, Any]]:
                 return
             yield fault
         number += 1
+
+
+def received(fax: Fax) -> Iterator[str]:
+    """What the receiver counted of bad rows (RFC 2306, BadFaxLines and CleanFaxData), in a line for those that it mended
+    and one for those that it left, with pages numbered from 1."""
+    said: Dict[bool, List[Tuple[int, int]]] = {False: [], True: []}
+    for page in forms(fax):
+        its = None if isinstance(page, Fault) else page.received
+        if its and (its.bad_rows or its.clean):
+            said[its.clean == _LEFT].append((its.bad_rows or 0, page.number + 1))
+    for left, pages in said.items():
+        if len(pages) > 2:
+            yield f"{_DONE[left]} by the receiver: {rows_of(sum(count for count, _ in pages))} of {len(pages)} pages"
+        elif pages:
+            yield f"{_DONE[left]} by the receiver: " + " and ".join(
+                f"{rows_of(count)} of page {page}" for count, page in pages)
+
+
+def rows_of(count: int) -> str:
+    """A count of rows, of which a receiver need not say how many there are."""
+    return "rows" if count == 0 else "1 row" if count == 1 else f"{count} rows"
 
 
 def bound(fax: Fax) -> None:
@@ -175,7 +199,7 @@ def add_page(pdf: Any, font: Any, sheet: Sheet) -> None:
 
 
 def write_pdf(data: bytes, file: IO[bytes], salvage: bool) -> None:
-    """Writes a PDF of a fax. What is lost is told in a line, too."""
+    """Writes a PDF of a fax. What is lost, and what its receiver mended, is said in lines too."""
     pdf, read = pikepdf.new(), 0
     font = pdf.make_indirect(pikepdf.Dictionary(
         Type=pikepdf.Name.Font, Subtype=pikepdf.Name.Type1, BaseFont=pikepdf.Name.Helvetica))
@@ -186,6 +210,8 @@ def write_pdf(data: bytes, file: IO[bytes], salvage: bool) -> None:
         add_page(pdf, font, sheet)
     if read == 0:
         raise Refused("no row of the fax can be read")
+    for line in received(Fax(data)):
+        say("WARNING", line)
     pdf.save(file, compress_streams=False)
     file.flush()
 

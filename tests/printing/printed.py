@@ -13,6 +13,7 @@ from tests.finding import found
 from tests.printing.room import Room
 from tests.printing.server import Told
 from tests.printing import made, server
+from tests.recipes.mended import SAID, fax_of
 
 SAMPLES = f"{server.TOP}/samples"
 # A page of this paper is larger than a fax, and the difference is even in pels: nothing is scaled, and no pel is cut.
@@ -168,6 +169,18 @@ def salvaged(room: Room, spoiled: list[tuple[str, str]]) -> None:
 def from_zero(where: str) -> str:
     """A printed place, which is numbered from 1, as the program numbers it."""
     return re.sub(r"\d+", lambda number: str(int(number[0]) - 1), where)
+
+
+def mended(room: Room) -> None:
+    """A warning says what the receiver of a fax mended, or left bad; the fax is printed."""
+    for number, (numbers, said) in enumerate(SAID):
+        path = room.made(f"mended-{number}.tif")
+        with open(path, "wb") as file:
+            file.write(fax_of(room.program, numbers))
+        status, pdf, lines = room.run(
+            f"{room.server.folder}/bin/filter/faxtopdf", "1", "user", "title", "1", "", path, env=environment(room))
+        room.claim(f"{numbers}: {said}", (status, pdf[:5], lines), (0, b"%PDF-", "".join(
+            f"WARNING: {line}\n" for line in said.split("; ") if line)))
 
 
 def without_the_program(room: Room) -> None:
@@ -331,6 +344,7 @@ def as_raster(room: Room) -> None:
 def play(room: Room) -> None:
     faxes = whole(room)
     as_they_are(room)
+    mended(room)
     damaged(room, faxes)
     read_late(room)
     grey(room)

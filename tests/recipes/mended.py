@@ -25,10 +25,15 @@ SAID: list[tuple[list[dict[int, int]], str]] = [
 ]
 
 
-def received(room: Room, name: str, numbers: list[dict[int, int]]) -> None:
-    """A fax of pages whose receiver says these numbers, an hour old."""
+def fax_of(program: str, numbers: list[dict[int, int]]) -> bytes:
+    """A fax of pages whose receiver says these numbers."""
     images = b"".join(missing.lines(seed, ROWS) for seed in range(len(numbers)))
-    room.put(name, counted(faxes.convert(room.program, images, "-o", "mmr"), numbers))
+    return counted(faxes.convert(program, images, "-o", "mmr"), numbers)
+
+
+def received(room: Room, name: str, numbers: list[dict[int, int]]) -> None:
+    """Such a fax in a file, an hour old."""
+    room.put(name, fax_of(room.program, numbers))
     os.utime(room(name), (time.time() - 3600,) * 2)
 
 

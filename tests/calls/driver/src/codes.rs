@@ -20,6 +20,7 @@ pub fn answer(words: &[&str]) -> Result<Option<String>, WrongLine> {
         ["mode", bits] => looked_up_mode(bits)?,
         ["verticals", bits] => verticals(bits)?,
         ["skip_ones", bits, most] => skip_ones(bits, most)?,
+        ["skip_short_zeros", order, bits, place] => skip_short_zeros(order, bits, place)?,
         ["skip_run_if_next", colour, bits, pels] => skip_run_if_next(colour, bits, pels)?,
         ["skip_zeros_and_one", bits, least] => past_zeros(bits, least)?,
         ["put_run", colour, pels] => run(colour, pels)?,
@@ -176,6 +177,20 @@ fn skip_ones(bits: &str, most: &str) -> Result<String, WrongLine> {
     let ones = source.ones();
     let count = source.skip_ones(most);
     Ok(format!("{ones} {count} {}", source.place()))
+}
+
+/// The place to which bits from a place on are skipped, before which no eleven zeros begin.
+fn skip_short_zeros(order: &str, bits: &str, place: &str) -> Result<String, WrongLine> {
+    let order = words::order(order)?;
+    let place = u64::from(words::number(place)?);
+    let bytes = words::bytes(bits)?;
+    let mut source = BitSource::new(&bytes, order);
+    if place > source.remaining() {
+        return Err(WrongLine::OutOfLimits);
+    }
+    source.skip(place);
+    source.skip_short_zeros();
+    Ok(source.place().to_string())
 }
 
 /// Whether the codes of a run were gone past, and the place after them.
