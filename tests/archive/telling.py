@@ -258,9 +258,11 @@ def one_line(room: Room, *_given: object) -> None:
         file.write(b"\xff" * 20000)
     status, _, error = room.run("table", "line.sqlite", "--csv")
     room.claim("a table that is damaged in the middle", (status, error.count("\n")), (3, 1))
-    limit = lambda: resource.setrlimit(resource.RLIMIT_FSIZE, (60000, 60000))  # noqa: E731
-    ran = subprocess.run([*words, "check", "tree", "--table", "no-room.sqlite"], env=told, cwd=room.folder,
-                         capture_output=True, text=True, check=False, preexec_fn=limit)
+    # An empty table has room, and few enough rows come that they are written when all is done.
+    size = os.path.getsize(room("hurt.sqlite")) + 20000
+    limit = lambda: resource.setrlimit(resource.RLIMIT_FSIZE, (size, size))  # noqa: E731
+    ran = subprocess.run([*words, "check", "tree", "--table", "no-room.sqlite", "--share", "0/4"], env=told,
+                         cwd=room.folder, capture_output=True, text=True, check=False, preexec_fn=limit)
     room.claim("no room for the table", (ran.returncode, ran.stderr.count("\n"), "no-room.sqlite: " in ran.stderr,
                                          "no transaction" in ran.stderr), (3, 1, True, False))
     if not room.dask:
