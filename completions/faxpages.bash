@@ -5,7 +5,7 @@ _faxpages_options() {
     case $1 in
     list) echo --cursor --max ;;
     rows) echo --cursor --max --long ;;
-    convert) echo -o --order --k --strip --align ;;
+    convert | salvage) echo -o --order --k --strip --align ;;
     check) echo --received ;;
     esac
 }

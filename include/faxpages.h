@@ -39,8 +39,8 @@
 #include <stdint.h>
 
 /* The version of this header, as text and as a number; faxpages_version returns the library's. */
-#define FAXPAGES_VERSION "1.14.0"
-#define FAXPAGES_VERSION_NUMBER 11400
+#define FAXPAGES_VERSION "1.15.0"
+#define FAXPAGES_VERSION_NUMBER 11500
 
 #ifdef __cplusplus
 extern "C" {
@@ -495,8 +495,8 @@ uint32_t faxpages_add_page(const struct faxpages_form *form, uint32_t k, const u
    known from the beginning, which faxpages_convert writes. No page is added after that. DONE;
    NO_ROOM, if the file has more than file_room bytes; or NO_OPTIONS, if no page was added, or more
    than 65535, `len` is less than 8 or more than 268435456, or as many directories as pages were
-   added, each after the offset that leads to it and the last one just before `link`, are not in the
-   `len` bytes. Except with DONE nothing is changed, and with DONE two bytes of each page at most.
+   added, of 16 fields or more, each after the offset that leads to it and the last one just before
+   `link`, are not in the `len` bytes. Except with DONE nothing is changed, and with DONE two bytes of each page at most.
    NO_ROOM comes before NO_OPTIONS for such directories, and after it for the numbers. */
 uint32_t faxpages_end_pages(uint8_t *file, size_t file_room, struct faxpages_written *written);
 

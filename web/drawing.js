@@ -79,7 +79,7 @@ class Drawing {
             this.eachRow(page, form, y, y + height, (row, bytes) => shrunk.add(row - y, bytes));
             return shrunk.pels();
         }
-        const pels = new Uint32Array(width * height);
+        const pels = new Uint32Array(width * height).fill(Drawing.WHITE);
         this.eachRow(page, form, y, y + height, (row, bytes) => {
             const at = (row - y) * width;
             if (bytes) {
@@ -91,12 +91,21 @@ class Drawing {
         return pels;
     }
 
-    /** @param {Uint32Array} pels @param {number} at @param {Uint8Array} bytes @param {number} x
+    /** Puts the black pels of a row into white ones, from the beginning of a byte on.
+     * @param {Uint32Array} pels @param {number} at @param {Uint8Array} bytes @param {number} x
      * @param {number} width */
     static putRow(pels, at, bytes, x, width) {
-        for (let pel = 0; pel < width; pel++) {
-            const isBlack = bytes[(x + pel) >> 3] & (0x80 >> ((x + pel) & 7));
-            pels[at + pel] = isBlack ? Drawing.BLACK : Drawing.WHITE;
+        const black = Drawing.BLACK;
+        for (let pel = 0, byte = x >> 3; pel < width; pel += 8, byte++) {
+            let bits = bytes[byte];
+            if (bits !== 0 && pel + 8 > width) {
+                bits &= 0xff00 >> (width - pel);
+            }
+            while (bits !== 0) {
+                const next = Math.clz32(bits) - 24;
+                pels[at + pel + next] = black;
+                bits ^= 0x80 >> next;
+            }
         }
     }
 
@@ -130,35 +139,66 @@ class Shrunk {
         this.across = across;
         this.down = down;
         this.columns = Math.ceil(width / across);
+        /** The column of each pel. */
+        this.column = Uint32Array.from({ length: width }, (_, pel) => Math.floor(pel / across));
         this.black = new Uint32Array(this.columns * Math.ceil(height / down));
         /** How many rows of each line are found. */
         this.found = new Uint32Array(Math.ceil(height / down));
+        /** @type {Map<number, number[]>} */
+        this.known = new Map();
     }
 
     /** @param {number} row @param {Uint8Array | null} bytes */
     add(row, bytes) {
+        const { x, width, black, column } = this;
         const line = Math.floor(row / this.down);
+        const first = line * this.columns;
         if (!bytes) {
             return;
         }
         this.found[line]++;
-        for (let pel = 0; pel < this.width; pel++) {
-            const at = this.x + pel;
-            if (bytes[at >> 3] === 0 && (at & 7) === 0) {
-                pel += 7;
-            } else if (bytes[at >> 3] & (0x80 >> (at & 7))) {
-                this.black[line * this.columns + Math.floor(pel / this.across)]++;
+        for (let pel = 0, byte = x >> 3; pel < width; pel += 8, byte++) {
+            let bits = bytes[byte];
+            if (bits !== 0 && pel + 8 > width) {
+                bits &= 0xff00 >> (width - pel);
+            }
+            while (bits !== 0) {
+                const next = Math.clz32(bits) - 24;
+                black[first + column[pel + next]]++;
+                bits ^= 0x80 >> next;
             }
         }
     }
 
     /** A shade of the rows that are found; the grey of lost rows where none is. */
     pels() {
-        return Uint32Array.from(this.black, (black, cell) => {
-            const found = this.found[Math.floor(cell / this.columns)];
-            const all = Math.min(this.across, this.width - (cell % this.columns) * this.across) * found;
-            return all ? Shrunk.shade((Shrunk.INK * black) / all) : Drawing.GREY;
+        const { black, columns, across, width } = this;
+        const pels = new Uint32Array(black.length).fill(Drawing.WHITE);
+        const narrow = width - (columns - 1) * across;
+        this.found.forEach((found, line) => {
+            const [first, last] = [line * columns, (line + 1) * columns - 1];
+            if (found === 0) {
+                pels.fill(Drawing.GREY, first, last + 1);
+                return;
+            }
+            const shades = this.shades(across * found);
+            for (let cell = first; cell < last; cell++) {
+                if (black[cell] > 0) {
+                    pels[cell] = shades[black[cell]];
+                }
+            }
+            pels[last] = this.shades(narrow * found)[black[last]];
         });
+        return pels;
+    }
+
+    /** The shades of cells of so many pels, for each number of black ones.
+     * @param {number} all */
+    shades(all) {
+        const shades = this.known.get(all) ??
+            Array.from({ length: all + 1 }, (_, black) => Shrunk.shade((Shrunk.INK * black) / all));
+        this.known.set(all, shades);
+        return shades;
     }
 
     /** @param {number} ink from 0, which is white, to 1 or more, which is black */

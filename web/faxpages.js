@@ -181,10 +181,12 @@ class App {
         const faxes = files.map((file) => new Fax(file, () => this.changed(), (fax) => this.take(fax)));
         this.faxes.push(...faxes);
         if (faxes.length > 0) {
+            // Its worker starts while the page is laid out.
+            this.fax = faxes[0];
+            this.startNext();
             this.show(faxes[0]);
             this.announce(say(TEXTS.announce.opened, faxes.map((fax) => sayName(fax.file.name)).join(", ")));
         }
-        this.startNext();
     }
 
     /** Keeps a file that was taken in; closes one that is open already with the same bytes, and shows that one.
@@ -340,7 +342,8 @@ class App {
             }
             this.renderPage(fax);
         }
-        // The page is asked for before those in small.
+        // The page is laid out beside those in small, and is asked for before them.
+        this.thumbs.lay(fax);
         this.view.show(fax, this.page);
         this.thumbs.show(fax, this.page, this.picked(fax));
         this.renderZoom();

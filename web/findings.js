@@ -116,10 +116,11 @@ class Findings {
         return details;
     }
 
-    /** What to do about what is found, each once.
+    /** What to do about what is found, each once, also where it is said in more words.
      * @param {Finding[]} found */
     static advice(found) {
-        return [...new Set(found.map(({ name, tag }) => sayOfFault(name, tag)[1]))].slice(0, 3);
+        const all = [...new Set(found.map(({ name, tag }) => sayOfFault(name, tag)[1]))];
+        return all.filter((it) => !all.some((other) => other !== it && other.includes(it))).slice(0, 3);
     }
 
     /** @param {Finding} finding @param {string} text */

@@ -127,8 +127,9 @@ class Library {
     /** The packed bytes of a row that was read last, its page, its number and its width.
      * @param {number} index */
     row(index) {
-        const [at, length, page, row, width] = this.numbers(this.rows + 20 * index, 5);
-        return { page, row, width, bytes: this.bytes(this.out + at, length) };
+        const numbers = this.numbers(this.rows + 20 * index, 5);
+        return { page: numbers[2], row: numbers[3], width: numbers[4],
+            bytes: this.bytes(this.out + numbers[0], numbers[1]) };
     }
 
     /** Reads all rows, and tells how many there are, notes on them and the first fault.

@@ -1,8 +1,9 @@
 "use strict";
 
-/** Was bei fehlenden Zeilen zu tun ist. */
+/** Was bei einer fehlenden Seite zu tun ist, und bei fehlenden Zeilen. */
+const TEXTE_ZUR_SEITE = "Brauchen Sie, was fehlt, so bitten Sie den Absender, die Seite noch einmal zu senden.";
 const TEXTE_BEI_RAUSCHEN = "In der Regel hat die Telefonleitung gerauscht, oder die Verbindung brach ab. Was fehlt, " +
-    "steht nicht in der Datei: Wer es braucht, bittet den Absender, die Seite noch einmal zu senden.";
+    `steht nicht in der Datei. ${TEXTE_ZUR_SEITE}`;
 
 /** All das auf Deutsch: Jeder Text von texts.js steht auch hier. */
 LANGUAGES.set("de", {
@@ -135,8 +136,7 @@ LANGUAGES.set("de", {
         BadField: ["Das Feld ist weder SHORT noch LONG, hat zu wenige Werte in der Datei, oder RowsPerStrip ist 0.",
             "Bitten Sie noch einmal um die Datei.", "ihre Beschreibung ist beschädigt"],
         OutOfLimits: ["Die Seite ist leer, breiter als 65.535 Punkte oder länger als 1.000.000 Zeilen.",
-            "Brach die Verbindung ab, so bitten Sie den Absender, die Seite noch einmal zu senden.",
-            "sie ist leer, oder größer als jede Faxseite"],
+            TEXTE_ZUR_SEITE, "sie ist leer, oder größer als jede Faxseite"],
         DirectoryOutside: ["Die Beschreibung einer Seite liegt außerhalb der Datei: Meist fehlt das Ende der Datei.",
             "Holen Sie die Datei noch einmal, und vergleichen Sie ihre Länge. Was da ist, lässt sich speichern.",
             "das Ende der Datei fehlt"],

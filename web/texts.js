@@ -1,8 +1,9 @@
 "use strict";
 
-/** What to do about rows that are missing. */
+/** What to do about a page that is missing, or rows of it. */
+const TEXTS_OF_PAGE = "If you need what is missing, ask the sender for the page again.";
 const TEXTS_OF_NOISE = "As a rule this is noise on the telephone line, or the call was cut off. What is missing is " +
-    "not in the file: if you need it, ask the sender for the page again.";
+    `not in the file. ${TEXTS_OF_PAGE}`;
 
 /** What the page says, all of it, in English. Another language is a file beside this one, such as texts-de.js, with
  * each of these texts, and a line in index.html. */
@@ -137,7 +138,7 @@ const ENGLISH = {
         BadField: ["The field is neither SHORT nor LONG, has too few values in the file, or is a RowsPerStrip of 0.",
             "Ask for the file again.", "its description is damaged"],
         OutOfLimits: ["The page is empty, wider than 65,535 pels or longer than 1,000,000 rows.",
-            "If the call was cut off, ask the sender for the page again.", "it is empty, or larger than any fax page"],
+            TEXTS_OF_PAGE, "it is empty, or larger than any fax page"],
         DirectoryOutside: ["A page's directory lies outside the file: usually the end of the file is missing.",
             "Fetch the file again, and compare its length. What is there can be saved.",
             "the end of the file is missing"],

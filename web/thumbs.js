@@ -108,6 +108,14 @@ class Thumbs {
         });
     }
 
+    /** Takes the room that it needs.
+     * @param {Fax | null} fax */
+    lay(fax) {
+        const pages = fax?.pages ?? 0;
+        this.all.style.height = `${pages * Thumbs.HIGH}px`;
+        this.box.hidden = pages < 2;
+    }
+
     /** @param {Fax | null} fax @param {number} page @param {Set<number>} picked pages, to be printed or saved */
     show(fax, page, picked) {
         this.picked = picked;
@@ -122,8 +130,6 @@ class Thumbs {
         }
         const hasMoved = this.page !== page;
         this.page = page;
-        this.all.style.height = `${(fax?.pages ?? 0) * Thumbs.HIGH}px`;
-        this.box.hidden = (fax?.pages ?? 0) < 2;
         if (hasMoved) {
             this.bringIntoSight(page);
         }

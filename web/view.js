@@ -109,6 +109,8 @@ class View {
     static REST = 150;
     /** So many of the next ones come in small before those are drawn in large that are out of sight. */
     static SOON = 3;
+    /** So many pictures are asked for at a time, once there is one. */
+    static AT_ONCE = 2;
     /** Pels to the inch on paper, where the file does not say it, and on the screen: as large as on paper is 100%. */
     static DOTS = 204;
     static SCREEN_DOTS = 96;
@@ -124,7 +126,7 @@ class View {
         this.all.className = "roll";
         view.append(this.all);
         this.roll = new Roll(view, this.all, () => this.place());
-        this.queue = new Queue(2);
+        this.queue = new Queue(View.AT_ONCE);
         /** @type {Fax | null} */
         this.fax = null;
         this.reading = 0;
@@ -193,6 +195,8 @@ class View {
         this.blanks.clear();
         this.roll.clear();
         this.hasDrawn = false;
+        // All of the first page is asked for before those in small.
+        this.queue.most = Sheet.MOST_WHOLE;
     }
 
     /** Gives each page its place: those that are new, or all once these are forgotten. */
@@ -445,6 +449,7 @@ class View {
     /** Something of a page was drawn. */
     drawn() {
         this.hasDrawn = true;
+        this.queue.most = View.AT_ONCE;
         this.plan();
     }
 

@@ -108,7 +108,6 @@ class FaxWorker {
     /** Takes the file in, piece by piece, each through the same few bytes where the browser can do so.
      * @param {File} file @param {Library} library */
     async load(file, library) {
-        let sum = 0;
         /** @type {any} */
         const reader = FaxWorker.reader(file);
         let at = library.takeFile(file.size);
@@ -121,22 +120,22 @@ class FaxWorker {
                 break;
             }
             library.bytes(at, value.length).set(value);
-            sum = FaxWorker.added(sum, value);
             at += value.length;
             room = new Uint8Array(value.buffer);
         }
         if (at !== end) {
             throw new Broken("changed");
         }
-        return sum;
+        return FaxWorker.sum(library);
     }
 
-    /** A sum of bytes by which it is seen that a file was changed.
-     * @param {number} sum @param {Uint8Array} bytes */
-    static added(sum, bytes) {
-        let all = sum;
-        for (let at = 0; at < bytes.length; at++) {
-            all = (Math.imul(all, 31) + bytes[at]) | 0;
+    /** A sum by which it is seen that a file was changed: of its bytes by fours, with zeros after the last ones.
+     * @param {Library} library */
+    static sum(library) {
+        const words = library.numbers(library.file, Math.ceil(library.length / 4));
+        let all = 0;
+        for (let at = 0; at < words.length; at++) {
+            all = (Math.imul(all, 31) + words[at]) | 0;
         }
         return all;
     }
@@ -211,6 +210,9 @@ class FaxWorker {
     async read() {
         const reading = new Reading(this.library, this.salvaging, this.send, this.pause);
         const pages = await reading.list();
+        // The first page is asked for now.
+        this.pictured = performance.now();
+        await this.pause();
         const took = await reading.walk();
         await reading.received(pages);
         if (took < FaxWorker.LONG) {

@@ -94,7 +94,7 @@ from .faults import (
     OutputTooLarge, OutsideError, PbmFault, RunTooLong, ShortHeader, StripFault, StripOutside, TooManyRows,
     UnknownInput, Unsupported)
 
-__version__ = "1.14.0"
+__version__ = "1.15.0"
 __all__ = [
     "open", "check", "convert", "write", "encode", "strip", "check_strip", "encode_strip", "salvage_strip", "register",
     "version",
@@ -108,7 +108,7 @@ __all__ = [
 
 
 def version() -> str:
-    """The version of libfaxpages, as "1.14.0". That of this module is faxpages.__version__.
+    """The version of libfaxpages, as "1.15.0". That of this module is faxpages.__version__.
 
     >>> faxpages.version().count(".")
     2

@@ -17,8 +17,8 @@ OPTION = re.compile(r'(text|number|letter|flag) (?:\(codes "(\w+)"\)|(\d+))')
 def in_grammar() -> Words:
     """What specs/Grammar.antt lists."""
     grammar = read("crates", "fax_tool", "specs", "Grammar.antt")
-    part, text = (grammar.split(f"\n{name} = ")[1].split("\n\n")[0] for name in ("part", "commands"))
-    text = re.sub(r"\bpart\b", lambda _: part, text)
+    lists = {name: grammar.split(f"\n{name} = ")[1].split("\n\n")[0] for name in ("part", "form_items", "commands")}
+    text = re.sub(r"\b(part|form_items)\b", lambda it: lists[it[1]], lists["commands"])
     options: Words = {}
     for command in re.split(r"\(\s*(?=codes \"\w+\",)", text)[1:]:
         name = found(r'codes "(\w+)"', command).group(1)
@@ -44,7 +44,8 @@ def in_synopsis(lines: list[str]) -> Words:
 def in_bash() -> Words:
     text = read("completions", "faxpages.bash")
     names = found(r"words='([\w ]+)'", text).group(1).split()
-    options = dict(re.findall(r"^    (\w+)\) echo (-.*) ;;", text, re.M))
+    cases = re.findall(r"^    ([\w |]+)\) echo (-.*) ;;", text, re.M)
+    options = {name: given for case, given in cases for name in case.split(" | ")}
     valued = set(re.findall(r"--?\w+", " ".join(re.findall(r"^        (-[-\w| ]+)\)", text, re.M))))
     return {name: [(option, option in valued) for option in options.get(name, "").split()] for name in names}
 
@@ -52,11 +53,12 @@ def in_bash() -> Words:
 def in_zsh() -> Words:
     text = read("completions", "_faxpages")
     names = re.findall(r"'(\w+):", text.split("commands=(")[1].split("\n)")[0])
-    part = text.split("part=(")[1].split("\n)")[0]
+    lists = {f"${name}": text.split(f"\n{name}=(")[1].split("\n)")[0] for name in ("part", "written")}
     cases = text.split("case $command in\n")[1].split("\nesac")[0]
     options: Words = {}
     for name in names:
-        case = found(rf"^{name}\)(.*?);;", cases, re.M | re.S).group(1).replace("$part", part)
+        case = found(rf"^(?:\w+ \| )?{name}(?: \| \w+)?\)(.*?);;", cases, re.M | re.S).group(1)
+        case = re.sub(r"\$\w+", lambda it: lists[it[0]], case)
         options[name] = [(option, value != "") for option, value in re.findall(r"'(--?\w+)\[[^\]]*\](:?)", case)]
     return options
 

@@ -18,6 +18,11 @@ TOO_SLOW = f"it takes more than {SECONDS} seconds of the processor; FAXPAGES_CPU
 BESIDE = 3.0
 # A program that never ends, in the place of one of poppler's.
 ENDLESS = "#!/bin/bash\nwhile :; do :; done\n"
+# The program, but for a file of a damaged fax's pages, which it never ends.
+ENDLESS_FILE = """#!/bin/bash
+while [ "$1 $2" = 'salvage -o' ]; do :; done
+exec {program} "$@"
+"""
 Entry = tuple[int, int, int, int]
 
 
@@ -82,6 +87,12 @@ def seconds(room: Room, _: str) -> Iterator[Claim]:
         yield f"{script}: what is there", (room.names(), room.left()), (names, [])
     for name in ("pdfinfo", "pdftoppm"):
         os.remove(f"{room.path}/bin/{name}")
+    room.sample("damaged-fourth-page.tif", "fax.tif")
+    room.tool("faxpages", ENDLESS_FILE.format(program=room.program))
+    status, told, took = timed(room, "faxpages-salvage", "fax.tif", "made", FAXPAGES_CPU_SECONDS=str(SECONDS))
+    ended = 3, "faxpages-salvage: " + TOO_SLOW, True
+    yield f"salvage, and pages.tif: {took:.1f} s", (status, told, took < SECONDS + BESIDE), ended
+    yield "salvage, and pages.tif: what is there", (room.names(), room.left()), (sorted([*names, "fax.tif"]), [])
 
 
 def swept(room: Room, _: str) -> Iterator[Claim]:

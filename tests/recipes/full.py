@@ -73,6 +73,9 @@ def refused(room: Room) -> Iterator[Claim]:
         left = [place for place, _, names in os.walk(small) if names]
         yield f"{name}: nothing is left", left, []
         room.bash(f"rm -rf {small}/*")
+    said = room.call("faxpages-salvage", fax, "salvaged")[2]
+    yield "salvage: what has no room", said, "faxpages-salvage: no room for the pages\n"
+    room.bash(f"rm -rf {small}/*")
     yield "compare", room.call("faxpages-compare", fax, fax)[::2], (0, "")
     room.bash("touch -d '1 hour ago' archive/fax.tif")
     room.bash(f"mkdir {small}/state; head -c 1M /dev/zero >{small}/fill")

@@ -19,6 +19,8 @@ from tests.recipes.recipes import ROOT, SCRIPTS
 from tests.recipes.room import HOSTILE, WIDTH, is_there
 
 PNG = b"\x89PNG"
+# What ends a strip in MMR.
+EOFB = bytes.fromhex("001001")
 
 
 def grey(data: bytes) -> tuple[int, int, int, list[bytes]]:
@@ -386,10 +388,11 @@ def salvage_damaged(room: Room, commands: str) -> Iterator[Claim]:
     row = int(found(rb"row (\d+)", fault).group(1))
     lost = re.fullmatch(rb"page 3 rows %d to 10: (\w+)\n" % row, room.get("fax.salvaged/lost.txt"))
     yield "damaged: lost", lost is not None and fault.endswith(lost.group(1) + b"\n"), True
-    whole = [
-        line for line in rows.splitlines() if line.split()[:2] in ([b"row", b"0"], [b"row", b"1"], [b"row", b"2"])
-    ]
-    yield "damaged: rows", room.rows("fax.salvaged/pages.tif")[0].splitlines(), [*whole, b"end"]
+    left = [line for line in rows.splitlines() if line.startswith(b"row ")]
+    white = [b"row 3 %d 32" % it for it in range(row, 11)]
+    yield "damaged: rows", room.rows("fax.salvaged/pages.tif")[0].splitlines(), [*left, *white, b"end"]
+    said = room.run("check", "--received", name="fax.salvaged/pages.tif")[1].decode().splitlines()
+    yield "damaged: bad rows", said[0], f"note page 3: N6 BadFaxLines {11 - row} {11 - row} 1"
     width, height, most, raster = grey(room.get("fax.salvaged/page-3.png"))
     yield "damaged: picture", (width, height), (32, 11)
     colours = [{value * 3 // most for value in line} for line in raster]
@@ -427,7 +430,7 @@ def salvage_strips(room: Room, images: list[bytes]) -> Iterator[Claim]:
     status, _, _ = room.call("faxpages-salvage", "refused.tif", "refused")
     lines = room.get("refused/lost.txt").decode().splitlines()
     yield "refused", (status, lines[0]), (1, "page 0: Unsupported 259")
-    yield "refused: pages", len(room.run("list", name="refused/pages.tif")[1].splitlines()), 5 - (number != 0)
+    yield "refused: pages", len(room.run("list", name="refused/pages.tif")[1].splitlines()), 5
 
 
 def pages_of_pdf(room: Room, name: str) -> list[tuple[int, int, int]]:
@@ -443,7 +446,7 @@ def salvage_noisy(room: Room) -> Iterator[Claim]:
     `lost.txt` has a line for each stretch."""
     room.sample("received/over-a-noisy-line.tif", "noisy.tif")
     yield "noisy", room.call("faxpages-salvage", "noisy.tif", "noisy"), (1, b"0 pages whole, 1 in part\n", "")
-    yield "noisy: files", room.names("noisy"), ["lost.txt", "page-0.png", "pages.pdf"]
+    yield "noisy: files", room.names("noisy"), ["lost.txt", "page-0.png", "pages.pdf", "pages.tif"]
     said = room.run("salvage", name="noisy.tif")[1].decode().splitlines()
     words = [line.split() for line in said if line.startswith("lost ")]
     stretches = [(int(first), int(rows), name) for _, _, first, rows, name in words]
@@ -493,22 +496,26 @@ def chained(made: list[tuple[dict[int, int], bytes]]) -> bytes:
 
 
 def salvage_chain(room: Room) -> Iterator[Claim]:
-    """Pages in their order: whole, refused, in part, whole; and a chain that leads back after them."""
+    """Pages in their order: whole, refused, lost, in part, whole; and a chain that leads back after them."""
     sent, noisy = page_of("as-it-was-sent.tif"), page_of("over-a-noisy-line.tif")
-    refused = {**sent[0], 256: 0}, sent[1]
-    room.put("chain.tif", chained([sent, refused, noisy, sent]))
+    refused, gone = ({**sent[0], 256: 0}, sent[1]), ({**sent[0], 257: 10}, EOFB)
+    room.put("chain.tif", chained([sent, refused, gone, noisy, sent]))
     yield "chain: status", room.call("faxpages-salvage", "chain.tif", "chain")[:2], (1, b"2 pages whole, 1 in part\n")
-    lines = room.get("chain/lost.txt").decode().splitlines()
-    yield "chain: refused and broken", (lines[0], lines[-1]), ("page 1: OutOfLimits 256", "page 4: DirectoryLoop")
-    yield "chain: the page in part", all(line.startswith("page 2 rows ") for line in lines[1:-1]), True
+    first, second, *lines, last = room.get("chain/lost.txt").decode().splitlines()
+    yield "chain: refused and broken", (first, last), ("page 1: OutOfLimits 256", "page 5: DirectoryLoop")
+    yield "chain: the page that is lost", second, "page 2 rows 0 to 9: EndMarker"
+    yield "chain: the page in part", {line.split(" rows ")[0] for line in lines}, {"page 3"}
     sizes = [(WIDTH, 360, 1), (WIDTH, 680, 2), (WIDTH, 360, 1)]
     yield "chain: PDF", pages_of_pdf(room, "chain/pages.pdf"), sizes
-    yield "chain: files", room.names("chain"), ["lost.txt", "page-2.png", "pages.pdf", "pages.tif"]
+    yield "chain: files", room.names("chain"), ["lost.txt", "page-3.png", "pages.pdf", "pages.tif"]
+    room.sample("received/as-it-was-sent.tif", "sent.tif")
+    shown = room.bash("pdfimages -png chain/pages.pdf shown; for it in 0 2; do pngtopnm shown-00$it.png; done")[1]
+    yield "chain: whole pages", shown == room.run("convert", "-o", "pbm", name="sent.tif")[1] * 2, True
 
 
 def salvage_many(room: Room) -> Iterator[Claim]:
     """A fax of so many damaged pages that they are not drawn is refused at once; pages of which nothing is left are
-    listed."""
+    listed; and if pages.tif would be too large, the PDF has whole pages as pictures."""
     head = b"II*\0" + struct.pack("<I", 16) + bytes.fromhex("0018e000") + bytes(4)
     for coding, wanted in ((3, (3, ["more than 1000 pages are damaged, or there is no room for them"])), (4, (1, []))):
         fields = [(256, 8), (257, 1000000), (259, coding), (262, 0), (273, 8), (278, 1000000), (279, 3)]
@@ -519,22 +526,26 @@ def salvage_many(room: Room) -> Iterator[Claim]:
         status, _, said = room.call("faxpages-salvage", "many.tif", f"many-{coding}")
         yield f"many: {coding}", (status, [line.split(": ", 1)[1] for line in said.splitlines()]), wanted
     lines = room.get("many-4/lost.txt").decode().splitlines()
-    yield "many: all are listed", (len(lines), lines[-1]), (20000, "page 19999 rows 0 to 999999: EndMarker")
+    too_large = "pages.tif is not written: OutputTooLarge"
+    yield "many: all are listed", (len(lines), lines[-2:]), (
+        20001, ["page 19999 rows 0 to 999999: EndMarker", too_large])  # fmt: skip
     yield "many: no PDF", room.names("many-4"), ["lost.txt"]
+    empty = {256: 8, 257: 1000000, 259: 4, 262: 0, 266: 1}, EOFB
+    room.put("large.tif", chained([page_of("as-it-was-sent.tif"), page_of("over-a-noisy-line.tif"), *[empty] * 2200]))
+    yield "large", room.call("faxpages-salvage", "large.tif", "large"), (1, b"1 pages whole, 1 in part\n", "")
+    yield "large: files", room.names("large"), ["lost.txt", "page-0.png", "page-1.png", "pages.pdf"]
+    yield "large: told", room.get("large/lost.txt").decode().splitlines()[-1], too_large
+    yield "large: PDF", pages_of_pdf(room, "large/pages.pdf"), [(WIDTH, 720, 1), (WIDTH, 680, 2)]
 
 
 def salvage_odd(room: Room) -> Iterator[Claim]:
-    """A page that libtiff 4.5 cannot read, since its rows have the most runs: it is there as a picture."""
-    room.others("odd.tif", 0)
-    room.call("faxpages-salvage", "odd.tif", "odd")
-    copied = [line.split()[2:5:2] for line in room.run("list", name="odd/pages.tif")[1].splitlines()[:-1]]
-    pictures = [int(name[5:-4]) for name in room.names("odd") if name.endswith(".png")]
-    yield "odd: all pages are there", len(copied) + len(pictures), 5
-    for page in pictures:
-        yield f"odd: page {page} is told", f"page {page} is not in pages.tif" in room.get(
-            "odd/lost.txt"
-        ).decode(), True
-        yield f"odd: page {page} is whole", grey(room.get(f"odd/page-{page}.png"))[:2], size_of(room, "odd.tif", page)
+    """A page that libtiff 4.5 cannot read, since its rows in MH have the most runs: the PDF has it too."""
+    images = room.others("odd.tif", 0)
+    yield "odd", room.call("faxpages-salvage", "odd.tif", "odd"), (0, b"5 pages whole, 0 in part\n", "")
+    yield "odd: rows", room.rows("odd/pages.tif"), room.rows("odd.tif")
+    room.bash("pdfimages -png odd/pages.pdf odd/shown")
+    shown = [room.bash(f"pngtopnm odd/shown-00{page}.png")[1] for page in range(5)]
+    yield "odd: the PDF", shown, images
 
 
 def salvage_standard(room: Room) -> Iterator[Claim]:

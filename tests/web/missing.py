@@ -97,16 +97,21 @@ def state(rows: int, lost: int) -> str:
     return "whole" if not lost else "most is missing" if 2 * lost > rows else f"{verdicts.counted(lost, 'row')} missing"
 
 
+def empty(fax: bytes) -> bytes:
+    """A fax of two pages, as it is where the call was cut off before a row of the second one."""
+    data, last = bytearray(fax), list(places(fax))[1]
+    at = fax.index(struct.pack("<H", 257), last)
+    data[at + 8:at + 12] = struct.pack("<I", 0)
+    return bytes(data)
+
+
 def reasons(browser: Browser, program: str, room: str) -> Generator[Claim, None, None]:
     """No verdict stands without its reason; each is for somebody who has never seen a fax's inside."""
     fax = faxes.convert(program, lines(1, 30) * 2, "-o", "mmr")
-    empty = bytearray(fax)
     last = list(places(fax))[1]
-    at = fax.index(struct.pack("<H", 257), last)
-    empty[at + 8:at + 12] = struct.pack("<I", 0)
     mail = b"Received: from fax.example\r\nFrom: fax@example\r\nSubject: A fax\r\n\r\nAttached.\r\n"
     tried: dict[str, tuple[bytes, str, str]] = {
-        "call.tif": (bytes(empty), "Page 2 cannot be read: no row of it was received.", "damaged"),
+        "call.tif": (empty(fax), "Page 2 cannot be read: no row of it was received.", "damaged"),
         "cut.tif": (fax[:last + 20], "After page 1 nothing more is found: the end of the file is missing.", "damaged"),
         "other.bin": (b"\0\1\xfe" * 30, "This file cannot be read as a fax: it is no TIFF file.", "damaged"),
         "fax.eml": (mail, "This is no fax that is read here, but a mail. The fax may be attached to it: save it from "
@@ -117,6 +122,10 @@ def reasons(browser: Browser, program: str, room: str) -> Generator[Claim, None,
         yield f"{name}: what is said", verdict_of(browser, put(f"{room}/{name}", data)), (said, look)
     yield "nothing is offered for a text", browser.run(
         '["save", "printer", "view-part"].map((it) => document.getElementById(it).checkVisibility())'), [False] * 3
+    verdict_of(browser, put(f"{room}/both.tif", empty(noisy(program, 3, [90, 90], [9]))))
+    both = browser.run("[...app.fax.lost.keys(), ...app.fax.refused.keys()]")
+    said = browser.run("document.getElementById('advice').textContent")
+    yield f"what to do is said once: {said}", (both, said.count("ask the sender")), ([0, 1], 1)
     close_all(browser)
 
 
@@ -238,6 +247,33 @@ def averaged(browser: Browser, program: str, room: str) -> Generator[Claim, None
                 for line in range(small[0]))
     yield "in small", greys, whole * (small[1] // small[0])
     close_all(browser)
+
+
+def shaded(browser: Browser, program: str, room: str) -> Generator[Claim, None, None]:
+    """Each pel of a part that is made smaller has the shade of all that it stands for, also at the ends of rows that
+    end within a byte, and at the last rows."""
+    rng, width, rows = random.Random(8), 1003, 41
+    drawn = [rng.getrandbits(width) & rng.getrandbits(width) if row % 9 else 0 for row in range(rows)]
+    path = put(f"{room}/shaded.tif", faxes.convert(program, pages.image(width, drawn), "-o", "mmr"))
+    verdict_of(browser, path)
+    black = [[row >> (width - 1 - pel) & 1 for pel in range(width)] for row in drawn]
+    for across, down, x, wide, y in ((1, 1, 0, width, 0), (1, 1, 16, 500, 3), (2, 2, 0, width, 0), (3, 3, 0, width, 0),
+                                     (5, 2, 16, 501, 4), (1, 3, 8, width - 8, 0), (40, 40, 0, width, 0)):
+        got = browser.run(f"""app.fax.ask("part", {{ page: 0, x: {x}, y: {y}, width: {wide}, height: {rows - y},
+            across: {across}, down: {down} }}).then(({{ pels }}) => [...pels].map((it) => it & 255))""")
+        wanted = []
+        for top in range(y, rows, down):
+            for left in range(x, x + wide, across):
+                here = [row[pel] for row in black[top:top + down] for pel in range(left, min(x + wide, left + across))]
+                ink = sum(here) / len(here) * (1.4 if across * down > 1 else 1)
+                wanted.append(int(255 * (1 - min(1, ink)) + 0.5))
+        yield f"{across} by {down} from {x}, {y}: the shades", near(got, wanted), True
+    close_all(browser)
+
+
+def near(got: list[int], wanted: list[int]) -> bool:
+    """Whether shades are the same, but for what rounding may make of one."""
+    return len(got) == len(wanted) and all(abs(one - other) <= 1 for one, other in zip(got, wanted))
 
 
 def fronted(program: str, images: list[bytes]) -> bytes:
@@ -390,4 +426,4 @@ def without_eols(browser: Browser, program: str, room: str) -> Generator[Claim, 
     close_all(browser)
 
 
-PARTS: list[Any] = [counts, reasons, folded, reached, marks, averaged, cut, bare, without_eols]
+PARTS: list[Any] = [counts, reasons, folded, reached, marks, averaged, shaded, cut, bare, without_eols]

@@ -4,6 +4,7 @@ not drawn yet; also where all pages are higher than a browser lets an element be
 from __future__ import annotations
 
 import os
+import statistics
 from typing import Any, Generator
 
 from tests import TOP, Claim
@@ -199,8 +200,39 @@ def resized(browser: Browser, program: str, room: str) -> Generator[Claim, None,
 
 # How many frames are scrolled in the first second, and in how many of them a page may lack its picture.
 FIRST_FRAMES, FIRST_EMPTY = 61, 6
-# How often a fax is opened, and in how many milliseconds its first page stands.
-TIMES, SOON = 9, 300
+# How often each of three faxes is opened, and in how many milliseconds its first page stands.
+TIMES, SOON = 3, 300
+
+
+def hundreds(program: str, room: str) -> str:
+    """A fax of hundreds of pages, of which each fifth was hit by noise."""
+    images = [missing.lines(seed, HIGH // 2) for seed in range(3)]
+    data = bytearray(faxes.convert(program, b"".join(images) * 100, "-o", "mmr"))
+    for place, size in missing.strips(bytes(data))[::5]:
+        data[place + size // 2] ^= 0x40
+    return put(f"{room}/hundreds.tif", bytes(data))
+
+
+def laid_out_once(browser: Browser, program: str, room: str) -> Generator[Claim, None, None]:
+    """The first page is laid out beside the list of pages from the beginning: each part of it is asked for once."""
+    path = long(program, room)
+    browser.run("""window.ask = Fax.prototype.ask;
+        Fax.prototype.ask = function (call, words, tell) {
+            window.asked.push(...(call === "part" && words.page === 0 ? [`${words.x} ${words.y}`] : []));
+            return window.ask.call(this, call, words, tell);
+        }""")
+    for zoom in ("wide", "whole"):
+        browser.run(f"while (app.fax) app.close(); app.view.zoom = '{zoom}'; window.asked = []")
+        browser.choose("#choose", path)
+        browser.until("app.fax && app.fax.state === 'done' && app.view.hasDrawn && !app.view.isWaiting")
+        yield f"{zoom}: what is asked for", browser.run("window.asked.sort().join()"), "0 0,0 1024"
+    browser.run("Fax.prototype.ask = window.ask; while (app.fax) app.close()")
+
+
+def load_now() -> float:
+    """How many programs want each processor, here and now."""
+    with open("/proc/loadavg", encoding="ascii") as told:
+        return int(told.read().split()[3].split("/")[0]) / (os.cpu_count() or 1)
 
 
 def first_second(browser: Browser, program: str, room: str) -> Generator[Claim, None, None]:
@@ -218,19 +250,23 @@ def first_second(browser: Browser, program: str, room: str) -> Generator[Claim, 
         };
         requestAnimationFrame(look);
     }, true)""")
-    path, stood, empty = long(program, room), list[float](), list[int]()
-    for at in range(TIMES):
+    paths = [long(program, room), hundreds(program, room), f"{TOP}/samples/received/over-a-noisy-line.tif"]
+    stood, empty, loads = {path: list[float]() for path in paths}, list[int](), list[float]()
+    for path in paths * TIMES:
         browser.run("while (app.fax) app.close(); app.view.zoom = 'wide'")
-        browser.choose("#choose", path if at % 3 == 0 else f"{TOP}/samples/received/over-a-noisy-line.tif")
-        stood.append(browser.until("window.stood"))
-        if at % 3 == 0:
+        loads.append(load_now())
+        browser.choose("#choose", path)
+        stood[path].append(browser.until("window.stood"))
+        if path == paths[0]:
             empty.append(browser.run(EMPTY.replace(f"=== {FRAMES}", f"=== {FIRST_FRAMES}"))[1])
-    load = os.getloadavg()[0] / (os.cpu_count() or 1)
-    print(f"({type(browser).__name__}: the first page stood in {min(stood):.0f} to {max(stood):.0f} ms; of "
-          f"{FIRST_FRAMES} frames {empty} were empty; load of a processor {load:.1f})")
-    yield f"the first page stands soon, of {stood}", min(stood) < SOON * max(1.0, load / 2), True
+    load = statistics.mean(loads)
+    for path, times in stood.items():
+        print(f"({type(browser).__name__}: the first page of {os.path.basename(path)} stood in {min(times):.0f} to "
+              f"{max(times):.0f} ms, mostly {statistics.median(times):.0f}; load of a processor {load:.1f})")
+        yield f"the first page stands soon, of {times}", min(times) < SOON * max(1.0, load), True
+    print(f"({type(browser).__name__}: of {FIRST_FRAMES} frames {empty} were empty)")
     yield f"the first second has few empty frames, of {empty}", min(empty) <= FIRST_EMPTY * max(1.0, load / 2), True
     browser.run("app.view.setZoom('whole'); while (app.fax) app.close()")
 
 
-PARTS: list[Any] = [first_second, resized, one_bar, no_empty_frames, ahead, short_bar, unreadable]
+PARTS: list[Any] = [first_second, laid_out_once, resized, one_bar, no_empty_frames, ahead, short_bar, unreadable]

@@ -6,6 +6,7 @@ ghost use Rattle.fax_bits.specs.views.Sink.{Appends, IsPadded};
 ghost use Rattle.fax_bits.specs.declared.FillOrder.TheVariants.{MsbFirst};
 
 use crate::bit_reversal::reverse_bits;
+use crate::window::word_at;
 use crate::{BitSource, FillOrder, Memory};
 use std::alloc::Global;
 use std::marker::Model;
@@ -187,6 +188,35 @@ impl BitSink {
         push_word(&mut self.bytes, (pending >> count) as u32);
         self.pending = pending & ((1 << count) - 1);
         Ok(())
+    }
+
+    /// Puts the bits of bytes, the highest bit of each first.
+    fn put_bytes(&mut self, bytes: &[u8]) -> Result<(), Memory>
+        ensures ok { OnOk result (Appends self.old (bits MsbFirst bytes.now) self.new) }
+        ensures same_order { self.new.order ≡ self.old.order }
+    {
+        let mut at = 0;
+        while bytes.len() - at >= 4 {
+            self.put_word(word_at(bytes, at, FillOrder::MsbFirst))?;
+            at += 4;
+        }
+        for byte in &bytes[at..] {
+            self.put(u32::from(*byte), 8)?;
+        }
+        Ok(())
+    }
+
+    /// Puts all bits of another sink.
+    ///
+    /// # Errors
+    ///
+    /// Where a growth was refused. Some of the bits may have been put then.
+    pub fn put_bits_of(&mut self, other: &BitSink) -> Result<(), Memory>
+        ensures ok { OnOk result (Appends self.old other.now.bits self.new) }
+        ensures same_order { self.new.order ≡ self.old.order }
+    {
+        self.put_bytes(&other.bytes)?;
+        self.put(other.pending as u32, other.count)
     }
 
     /// Puts zeros up to a whole byte. This takes no memory.

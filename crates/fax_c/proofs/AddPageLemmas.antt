@@ -1,7 +1,7 @@
 -- Pages that are coded and added to a file.
 use Rattle.std.proofs.Common.{◌≡◌, ℕ, ◌+◌, ◌*◌, ◌≤◌, List, [], ◌∷◌, ◌++◌, Vec, length, map, take, drop, refl, ap, sym}
 use Rattle.std.proofs.Common.{◌∙◌, arith}
-use Rattle.std.proofs.Common.{length-append, ◌≢◌, ◌⊎◌}
+use Rattle.std.proofs.Common.{length-append, None, ◌≢◌, ◌⊎◌}
 use Rattle.std.proofs.lemmas.List.{length-drop, length-take-le, drop-drop}
 use Rattle.std.specs.List.{range_with_len}
 use Rattle.std.specs.declared.alloc.Global.{Global}
@@ -11,7 +11,8 @@ use Rattle.fax_files.specs.declared.PageForm.{PageForm}
 use Rattle.fax_files.specs.Page.{strip_form}
 use Rattle.fax_files.specs.views.Writing.{contents}
 use Rattle.fax_files.specs.Directory.{max_file}
-use Rattle.fax_files.specs.Layout.{Written, directory_offset, four, page_bytes, with_page}
+use Rattle.fax_files.specs.Layout.{Written, WrittenPage, directory_offset, four, page_bytes, page_of, to_link}
+use Rattle.fax_files.specs.Layout.{with_page}
 use Rattle.fax_c.specs.declared.writing.FaxWritten.{FaxWritten}
 use Rattle.fax_c.specs.views.PageByPage.{IsHeld, IsWriting, file_so_far}
 use Rattle.fax_c.specs.code.AddedPages.{place_of}
@@ -40,12 +41,12 @@ len_patched : (bytes : List ℕ) (link n : ℕ) → link + 4 ≤ length bytes
     → length (take link bytes ++ four n ++ drop (link + 4) bytes) ≡ length bytes
 len_patched bytes link n inside = grind (arith, length-append, length-take-le, length-drop)
 
-pub len_with_page : (old : Written) (total k : ℕ) (form : PageForm) (strips : List (List ℕ))
+pub len_with_page : (old : Written) (total k : ℕ) (page : WrittenPage)
     → old.link + 4 ≤ length old.bytes
-    → length (with_page old total k form strips).bytes
-    ≡ length old.bytes + length (page_bytes (length old.bytes) total k form strips)
+    → length (with_page old total k page).bytes
+    ≡ length old.bytes + length (page_bytes (length old.bytes) total k page)
 unfolding with_page
-len_with_page old total k form strips inside = grind (arith, length-append, len_patched)
+len_with_page old total k page inside = grind (arith, length-append, len_patched)
 
 -- a file that is written so far has its length and its link
 pub record IsSoFar (written : FaxWritten) (file : List ℕ) : Type 0 where
@@ -69,12 +70,13 @@ pub page_added : (written : FaxWritten) (old mid new : List ℕ) (form : PageFor
     → IsWriting written × IsHeld written (length old)
     → start ≡ (place_of written).0 → link ≡ (place_of written).1
     → take start mid ≡ (file_so_far written old).bytes → drop start mid ≡ drop start old
-    → page ≡ page_bytes start written.total written.added form strips → directory ≡ directory_offset start strips
+    → page ≡ page_bytes start written.total written.added (page_of form strips) → directory
+    ≡ directory_offset start strips
     → new ≡ take link (take start mid) ++ four directory ++ drop (link + 4) (take start mid) ++ page
     ++ drop (start + length page) mid
-    → let next = with_page (file_so_far written old) written.total written.added form strips in
+    → let next = with_page (file_so_far written old) written.total written.added (page_of form strips) in
     (new ≡ next.bytes ++ drop (length next.bytes) old) × (start + length page ≡ length next.bytes)
-    × (directory + 194 ≡ next.link)
+    × (directory + to_link None ≡ next.link)
 unfolding with_page
 page_added written old mid new form strips page directory start link writing start_is link_is front rest page_is
     directory_is new_is =
@@ -84,11 +86,11 @@ page_added written old mid new form strips page directory start link writing sta
     let linked : link ≡ W.link = link_is ∙ is.link in
     let bytes_are = rw begin at page_is in
     let place_is = rw begin at directory_is in
-    let all : start + length page ≡ length (with_page W written.total written.added form strips).bytes =
-    rw (begin, bytes_are) (sym (len_with_page W written.total written.added form strips is.inside)) in
+    let all : start + length page ≡ length (with_page W written.total written.added (page_of form strips)).bytes =
+    rw (begin, bytes_are) (sym (len_with_page W written.total written.added (page_of form strips) is.inside)) in
     let after : drop (start + length page) mid ≡ drop (start + length page) old =
     rw (← drop-drop (length page) start mid, rest, drop-drop) in
-    (new_is ∙ rw (after, all, front, linked, place_is, bytes_are) refl, all, ap (λ n. n + 194) place_is)
+    (new_is ∙ rw (after, all, front, linked, place_is, bytes_are) refl, all, ap (λ n. n + to_link None) place_is)
 
 pub strips_are_counted : (form : PageForm) (k stride : ℕ) (raster : List ℕ) (strips : List (Vec ℕ Global))
     → contents strips ≡ page_strips form k stride raster → length strips ≡ form.strips
@@ -97,8 +99,8 @@ strips_are_counted form k stride raster strips are = grind (arith, length-conten
 -- how long a file is with the page
 pub page_len : (written : FaxWritten) (old : List ℕ) (form : PageForm) (strips : List (List ℕ)) (start : ℕ)
     → IsWriting written × IsHeld written (length old)
-    → start ≡ (place_of written).0 → start + length (page_bytes start written.total written.added form strips)
-    ≡ length (with_page (file_so_far written old) written.total written.added form strips).bytes
+    → start ≡ (place_of written).0 → start + length (page_bytes start written.total written.added (page_of form strips))
+    ≡ length (with_page (file_so_far written old) written.total written.added (page_of form strips)).bytes
 page_len written old form strips start writing start_is = grind (arith, so_far, len_with_page)
 
 abbrev final_end_of : FaxWritten → ℕ → ℕ → FaxWritten

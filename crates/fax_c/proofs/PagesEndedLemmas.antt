@@ -6,7 +6,7 @@ use Rattle.std.proofs.Math.Seq.{take-append_seam}
 use Rattle.std.specs.Prelude.{◌==◌}
 use Rattle.std.proofs.Common.{drop, refl}
 use Rattle.fax_files.specs.declared.PageForm.{PageForm}
-use Rattle.fax_files.specs.Layout.{Written, WrittenPage, file_of, with_page, with_pages}
+use Rattle.fax_files.specs.Layout.{Written, WrittenPage, file_of, page_of, with_page, with_pages}
 use Rattle.fax_files.specs.laws.TiffFiles.{TotalsAreTold}
 use Rattle.fax_files.specs.views.Writing.{with_totals}
 use Rattle.fax_files.specs.views.Writing.{empty_file}
@@ -54,14 +54,14 @@ ends_whole totals old_file file old written status told = λ total pages e is.
 pushed : (old written : FaxWritten) (old_file file rest : List ℕ) (form : PageForm) (strips : List (List ℕ))
     (pages : List WrittenPage)
     → IsFileSoFar old.total pages old old_file
-    → let next = with_page (file_so_far old old_file) old.total old.added form strips in
+    → let next = with_page (file_so_far old old_file) old.total old.added (page_of form strips) in
     written ≡ record old { len = length next.bytes; link = next.link; added = old.added + 1 }
     → file ≡ next.bytes ++ rest
-    → IsFileSoFar old.total (pages ++ record { form = form; strips = strips } ∷ []) written file
+    → IsFileSoFar old.total (pages ++ page_of form strips ∷ []) written file
 unfolding with_page
 pushed old written old_file file rest form strips pages before is file_is =
-    let next = with_page (file_so_far old old_file) old.total old.added form strips in
-    let page : WrittenPage = record { form = form; strips = strips } in
+    let page : WrittenPage = page_of form strips in
+    let next = with_page (file_so_far old old_file) old.total old.added page in
     let number : old.added ≡ 0 + length pages = omega (arith, before.added) in
     let bytes : take written.len file ≡ next.bytes = rw (is, file_is) (take-append_seam next.bytes rest) in
     record {
@@ -69,8 +69,8 @@ pushed old written old_file file rest form strips pages before is file_is =
       held = rw (is, file_is) (omega (arith, length-append next.bytes rest));
       is = so_far written file (rw is (omega arith))
           ∙ rw (bytes, ap (λ (w : FaxWritten). w.link) is) (
-          ap (λ (w : Written). with_page w old.total old.added form strips) before.is
-          ∙ ap (λ n. with_page (with_pages empty_file old.total 0 pages) old.total n form strips) number
+          ap (λ (w : Written). with_page w old.total old.added page) before.is
+          ∙ ap (λ n. with_page (with_pages empty_file old.total 0 pages) old.total n page) number
           ∙ sym (with_pages-push empty_file old.total 0 pages page));
     }
 

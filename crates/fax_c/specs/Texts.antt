@@ -54,7 +54,7 @@ NamesNote number old len new =
 
 -- the version, and its number
 abbrev pub version : List ℕ
-version = codes "1.14.0"
+version = codes "1.15.0"
 
 abbrev pub version_number : ℕ
-version_number = 11400
+version_number = 11500

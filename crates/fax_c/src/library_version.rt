@@ -10,7 +10,7 @@ use crate::caller_text::put_text;
 pub extern "C" fn faxpages_version() -> u32
     ensures { result ≡ Spec.version_number }
 {
-    11_400
+    11_500
 }
 
 /// Writes the version where it has room, and returns how many bytes it has.
@@ -18,5 +18,5 @@ pub extern "C" fn faxpages_version() -> u32
 pub extern "C" fn faxpages_version_text(text: &mut [u8]) -> usize
     ensures { Spec.IsTextPut Spec.version text.old result text.new }
 {
-    put_text(b"1.14.0", text)
+    put_text(b"1.15.0", text)
 }

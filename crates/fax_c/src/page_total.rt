@@ -15,14 +15,13 @@ ghost use Rattle.std.specs.Prelude.{
 ghost use Rattle.fax_c.specs.views.Ended as Spec;
 ghost use Rattle.fax_files.specs.views.Writing as Written;
 
-use crate::bytes::four_at;
+use crate::bytes::{four_at, two_at};
 use crate::status;
 use crate::writing::{FaxWritten, MOST_BYTES, MOST_PAGES};
 use fax_files::put_totals;
 
-/// How far after the place of a page's directory the offset of the next one stands: after the
-/// number of its fields and twelve bytes of each of the sixteen.
-const TO_LINK: usize = 2 + 12 * 16;
+/// How many fields the directory of each page has at least.
+const LEAST_FIELDS: usize = 16;
 
 /// Whether the pages of a file can be given how many they are, as far as its numbers say.
 fn is_endable(written: &FaxWritten) -> bool
@@ -43,10 +42,15 @@ fn next_link(file: &[u8], link: usize) -> Option<usize>
     ensures next { MatchOption result ⊤ (λ next. next ≡ Written.next_link file.now link) }
 {
     let directory = four_at(file, link) as usize;
-    if directory < link + 4 || directory > file.len().saturating_sub(TO_LINK + 4) {
+    if directory < link + 4 || directory > file.len() - 2 {
         return None;
     }
-    Some(directory + TO_LINK)
+    let fields = usize::from(two_at(file, directory));
+    let next = directory + 2 + 12 * fields;
+    if fields < LEAST_FIELDS || next > file.len() - 4 {
+        return None;
+    }
+    Some(next)
 }
 
 /// Whether so many pages stand in a file after its header, and the last has its link here.

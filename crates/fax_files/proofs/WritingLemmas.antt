@@ -4,8 +4,10 @@ use Rattle.std.proofs.Common.{sym, ap, ◌∙◌, arith}
 use Rattle.std.proofs.Common.{append_assoc, append-nil}
 use Rattle.std.proofs.lemmas.List.{length-append}
 use Rattle.std.specs.declared.alloc.Global.{Global}
-use Rattle.fax_files.specs.Layout.{four, array_bytes, offsets_from}
-use Rattle.fax_files.specs.code.PageParts.{longs, lengths_of, joined_strips}
+use Rattle.std.specs.Prelude.{flat_map}
+use Rattle.std.proofs.lemmas.List.Concat.{flat_map-append}
+use Rattle.fax_files.specs.Layout.{two, four, array_bytes, offsets_from, WrittenField, field_bytes}
+use Rattle.fax_files.specs.code.PageParts.{longs, lengths_of, joined_strips, fields_bytes}
 use Rattle.fax_files.specs.views.Writing.{contents}
 
 -- one more strip
@@ -85,6 +87,14 @@ pub tail_put : (t0 t1 t2 t3 t r f z x y a l : List ℕ) → t0 ≡ r → t1 ≡ 
     → t ≡ t3 ++ a ++ l
     → t ≡ r ++ (f ++ z ++ (x ++ y ++ a ++ l))
 tail_put t0 t1 t2 t3 t r f z x y a l e0 e1 e2 e3 e = rw (e, e3, e2, e1, e0) (simp append_assoc)
+
+-- a directory, whose fields are put in two parts
+pub directory_put : (o0 o1 o2 o3 o4 : List ℕ) (n : ℕ) (front more all : List WrittenField) → front ++ more ≡ all
+    → length all ≡ n → o1 ≡ o0 ++ two n → o2 ≡ o1 ++ flat_map field_bytes front → o3 ≡ o2 ++ flat_map field_bytes more
+    → o4 ≡ o3 ++ four 0
+    → o4 ≡ o0 ++ fields_bytes all ++ four 0
+directory_put o0 o1 o2 o3 o4 n front more all all_is count e1 e2 e3 e4 =
+    rw (e4, e3, e2, e1, ← count, ← all_is, flat_map-append field_bytes front more) (simp append_assoc)
 
 pub length-contents : (strips : List (Vec ℕ Global)) → length (contents strips) ≡ length strips
 length-contents [] = refl

@@ -3,7 +3,7 @@ use Rattle.std.proofs.Common.{◌≡◌, ℕ, ◌+◌, ◌*◌, ◌<◌, ◌≤�
 use Rattle.std.proofs.Common.{refl, ap, arith}
 use Rattle.std.proofs.lemmas.List.{length-append}
 use Rattle.std.proofs.lemmas.Bool.{le-leb, lt-ltb}
-use Rattle.std.specs.Prelude.{◌&&◌, flat_map, Option, Some, nat_lt, find, ◌==◌}
+use Rattle.std.specs.Prelude.{◌&&◌, flat_map, Option, Some, None, nat_lt, find, ◌==◌}
 use Rattle.fax_files.specs.Directory.{Entry, FileFault, is_inside, entries_at, field, scalar, values_offset, value_at}
 use Rattle.fax_files.specs.Directory.{has_integers}
 use Rattle.fax_files.specs.code.Steps.{first_number, first_value, good_rational}
@@ -115,6 +115,19 @@ field_there file offset tag (first ∷ fields) written values found =
     step : (same : Bool) → (first.tag == tag) ≡ same → cond same (Some first) (written_field fields tag) ≡ Some written
         → (written_field fields tag ≡ Some written → FieldThere file (offset + 12) tag fields written)
         → FieldThere file offset tag (first ∷ fields) written
+    step true e f rest = grind arith
+    step false e f rest = grind arith
+
+-- no field of a tag is read where none was written
+pub no_field : (file : List ℕ) (offset tag : ℕ) (fields : List WrittenField) → written_field fields tag ≡ None
+    → field (read_fields offset fields) tag ≡ None
+no_field file offset tag [] none = refl
+no_field file offset tag (first ∷ fields) none =
+    step (first.tag == tag) refl none (λ f. no_field file (offset + 12) tag fields f)
+  where
+    step : (same : Bool) → (first.tag == tag) ≡ same → cond same (Some first) (written_field fields tag) ≡ None
+        → (written_field fields tag ≡ None → field (read_fields (offset + 12) fields) tag ≡ None)
+        → field (read_fields offset (first ∷ fields)) tag ≡ None
     step true e f rest = grind arith
     step false e f rest = grind arith
 

@@ -26,7 +26,7 @@ use Rattle.fax_files.proofs.FileOffsetLemmas.{length-patched}
 use Rattle.fax_files.proofs.FileOffsetLemmas.{number_there}
 use Rattle.fax_files.proofs.WrittenStripLemmas.{length-offsets_from, length-lengths_of, length-longs}
 use Rattle.fax_files.proofs.WrittenPageLemmas.{page_fields, IsPageAt, length-page_fields, page_back, directory_whole}
-use Rattle.fax_files.proofs.WrittenPageLemmas.{next_there}
+use Rattle.fax_files.proofs.WrittenPageLemmas.{few_strips, next_there}
 
 -- II is little-endian, MM is big-endian
 abbrev endian_of : List ℕ → Result Endian FileFault
@@ -40,7 +40,7 @@ HasOpenLink old = HasBytesAt old.bytes old.link (four 0)
 
 -- a file with one more page
 abbrev with_written : Written → ℕ → ℕ → WrittenPage → Written
-with_written old total k written = with_page old total k written.form written.strips
+with_written old total k written = with_page old total k written
 
 -- where its directory stands
 abbrev offset_of : Written → WrittenPage → ℕ
@@ -49,14 +49,14 @@ offset_of old written = directory_offset (length old.bytes) written.strips
 -- what is written of a page stands after what stood there
 appended : (old : Written) (total k : ℕ) (written : WrittenPage) → HasOpenLink old
     → HasBytesAt (with_written old total k written).bytes (length old.bytes)
-    (page_bytes (length old.bytes) total k written.form written.strips)
+    (page_bytes (length old.bytes) total k written)
 unfolding with_page
 appended old total k written open' = grind (arith, length-patched, at_inside, at_end)
 
 -- the parts of a page that was appended
 record Appended (old new : Written) (total k : ℕ) (written : WrittenPage) : Type 0 where
   page_is : IsPageAt new.bytes (offset_of old written) (length old.bytes) total k written
-  new_link : new.link ≡ offset_of old written + to_link
+  new_link : new.link ≡ offset_of old written + to_link written.bad
   is_open : HasOpenLink new
   old_link : HasBytesAt new.bytes old.link (four (offset_of old written))
   kept : (p : ℕ) (bytes : List ℕ) → (p + length bytes ≤ old.link) ⊎ (old.link + 4 ≤ p) → HasBytesAt old.bytes p bytes
@@ -75,7 +75,7 @@ unfolding with_page
 linked old total k written open' = grind (arith, at_grown, at_patch, at_inside)
 
 link_of : (old : Written) (total k : ℕ) (written : WrittenPage)
-    → (with_written old total k written).link ≡ offset_of old written + to_link
+    → (with_written old total k written).link ≡ offset_of old written + to_link written.bad
 unfolding with_page
 link_of old total k written = refl
 
@@ -92,13 +92,13 @@ is_appended old total k written open' w =
     let values = values_bytes written.form (offsets_from start written.strips) (lengths_of written.strips) in
     let pad_len : length pad ≡ (start + length strips) % 2 = length-replicate _ 0 in
     let offset : start + length (strips ++ pad) ≡ q = omega (arith, length-append strips pad, pad_len) in
-    let fields_len = length-page_fields q start total k written w in
+    let fields_len = length-page_fields q start total k written (few_strips written w) in
     let all = appended old total k written open' in
     let with_zero = at_left (strips ++ pad ++ fields ++ four 0) values all in
     let with_fields = at_left (strips ++ pad ++ fields) (four 0) with_zero in
-    let zero_offset : start + length (strips ++ pad ++ fields) ≡ q + to_link =
+    let zero_offset : start + length (strips ++ pad ++ fields) ≡ q + to_link written.bad =
     omega (arith, offset, fields_len, length-append (strips ++ pad) fields) in
-    let values_offset : start + length (strips ++ pad ++ fields ++ four 0) ≡ q + to_x =
+    let values_offset : start + length (strips ++ pad ++ fields ++ four 0) ≡ q + to_x written.bad =
     omega (arith, zero_offset, length-append (strips ++ pad ++ fields) (four 0)) in
     record {
       page_is = record {
@@ -119,12 +119,12 @@ length-array : (numbers : List ℕ) → length (array_bytes numbers)
 length-array numbers = grind (arith, length-longs)
 
 pub length-with_page : (old : Written) (total k : ℕ) (written : WrittenPage) → old.link + 4 ≤ length old.bytes
-    → IsWritable written
+    → length written.strips < 4294967296
     → length (with_written old total k written).bytes
-    ≡ offset_of old written + to_offsets + 2 * (if nat_le (length written.strips) 1 then 0 else 4 * length
+    ≡ offset_of old written + to_offsets written.bad + 2 * (if nat_le (length written.strips) 1 then 0 else 4 * length
     written.strips)
 unfolding with_page page_bytes
-length-with_page old total k written inside w =
+length-with_page old total k written inside few =
     grind (
       arith,
       length-replicate,
@@ -196,10 +196,10 @@ page_stays old total k written pages open' w rest =
     let q = offset_of old written in
     let keep = stays_through new total (k + 1) pages one.is_open rest in
     let fields = fields_bytes (page_fields q (length old.bytes) total k written) in
-    let fields_len = length-page_fields q (length old.bytes) total k written w in
+    let fields_len = length-page_fields q (length old.bytes) total k written (few_strips written w) in
     record {
       fields = keep q fields (inl (omega (arith, one.new_link, fields_len))) one.page_is.fields;
-      values = keep (q + to_x) _ (inr (omega (arith, one.new_link))) one.page_is.values;
+      values = keep (q + to_x written.bad) _ (inr (omega (arith, one.new_link))) one.page_is.values;
       strips = keep (length old.bytes) (joined_strips written.strips) (inl (omega (arith, one.new_link)))
           one.page_is.strips;
     }

@@ -1,10 +1,11 @@
 -- A page that stands written in a file is read as it was written.
-use Rattle.std.proofs.Common.{rules, ◌≡◌, ◌≢◌, ℕ, ◌+◌, ◌-◌, ◌*◌, ◌/◌, ◌%◌, ◌^◌, ◌<◌, ◌≤◌, Option, None, Bool, true}
+use Rattle.std.proofs.Common.{◌≡◌, ◌≢◌, ℕ, ◌+◌, ◌-◌, ◌*◌, ◌/◌, ◌%◌, ◌^◌, ◌<◌, ◌≤◌, Option, None, Bool, true}
 use Rattle.std.proofs.Common.{false, List, [], ◌∷◌}
 use Rattle.std.proofs.Common.{◌++◌, length, get_or, Some, Result, Ok, refl, sym, ap, ◌∙◌, arith}
 use Rattle.std.proofs.lemmas.List.{length-append}
-use Rattle.std.proofs.lemmas.Bool.{le-leb, lt-ltb}
+use Rattle.std.proofs.lemmas.Bool.{le-leb, lt-ltb, ne_eqb}
 use Rattle.std.specs.Prelude.{flat_map, nat_lt, IsOk, ◌==◌, min, if◌then◌else◌}
+use Rattle.std.specs.Option.{ForSome}
 use Rattle.fax_bits.specs.declared.FillOrder.{FillOrder}
 use Rattle.fax_bits.specs.declared.FillOrder.TheVariants.{MsbFirst, LsbFirst}
 use Rattle.fax_page.specs.declared.Coding.{Coding}
@@ -18,15 +19,16 @@ use Rattle.fax_files.specs.declared.PageForm.{PageForm}
 use Rattle.fax_files.specs.Page.{fill_order_of, form_in, is_between, most_pels, most_rows, page, strip_bytes}
 use Rattle.fax_files.specs.code.Steps.{resolution_in}
 use Rattle.fax_files.specs.Layout.{to_link, two, WrittenField, field_bytes, compression_of, options_field, offsets_from}
-use Rattle.fax_files.specs.Layout.{array_bytes}
-use Rattle.fax_files.specs.Layout.{WrittenPage}
-use Rattle.fax_files.specs.code.PageParts.{field_count, to_x, to_y, to_offsets, long_field, short_field, lengths_of}
+use Rattle.fax_files.specs.Layout.{array_bytes, one_or_offset}
+use Rattle.fax_files.specs.Layout.{BadRows, WrittenPage, bad_fields, field_count, fields_with}
+use Rattle.fax_files.specs.BadRows.{optional_scalar, received}
+use Rattle.fax_files.specs.code.PageParts.{to_x, to_y, to_offsets, long_field, short_field, lengths_of}
 use Rattle.fax_files.specs.code.PageParts.{rational_bytes, fields_of}
 use Rattle.fax_files.specs.code.PageParts.{fields_bytes, values_bytes, joined_strips}
-use Rattle.fax_files.specs.laws.TiffFiles.{IsWritable, IsReadAt}
+use Rattle.fax_files.specs.laws.TiffFiles.{IsWritable, IsReadAt, said}
 use Rattle.fax_files.proofs.FileOffsetLemmas.{HasBytesAt, at_offset, at_left, at_right, at_inside, number_there}
 use Rattle.fax_files.proofs.WrittenFieldLemmas.{AllFit, length-fields, read_fields, HasValues, written_field}
-use Rattle.fax_files.proofs.WrittenFieldLemmas.{entries_there}
+use Rattle.fax_files.proofs.WrittenFieldLemmas.{entries_there, no_field}
 use Rattle.fax_files.proofs.WrittenFieldLemmas.{long_read, short_read, rational_back}
 use Rattle.fax_files.proofs.WrittenStripLemmas.{ArrayThere, array_back, array_checked, array_is_longs, length-longs}
 use Rattle.fax_files.proofs.WrittenStripLemmas.{length-offsets_from}
@@ -37,21 +39,21 @@ use Rattle.fax_files.specs.declared.tags.TheConstants as Tags
 -- the fields of page k of `total`, of which the strips begin at `start` and the directory stands at
 -- q
 abbrev pub page_fields : ℕ → ℕ → ℕ → ℕ → WrittenPage → List WrittenField
-page_fields q start total k written = fields_of q total k written.form (offsets_from start written.strips)
-    (lengths_of written.strips)
+page_fields q start total k written =
+    fields_of q total k written.form written.bad (offsets_from start written.strips) (lengths_of written.strips)
 
 -- what stands in a file of a page that was written: all of it but the offset of the next directory
 pub record IsPageAt (file : List ℕ) (q start total k : ℕ) (written : WrittenPage) : Type 0 where
   pub fields : HasBytesAt file q (fields_bytes (page_fields q start total k written))
-  pub values : HasBytesAt file (q + to_x) (values_bytes written.form (offsets_from start written.strips)
+  pub values : HasBytesAt file (q + to_x written.bad) (values_bytes written.form (offsets_from start written.strips)
       (lengths_of written.strips))
   pub strips : HasBytesAt file start (joined_strips written.strips)
 
--- the last two fields
-abbrev last_fields : ℕ → ℕ → PageForm → List WrittenField
-last_fields total k form =
+-- the last fields
+abbrev last_fields : ℕ → ℕ → PageForm → Option BadRows → List WrittenField
+last_fields total k form bad =
     short_field Tags.RESOLUTION_UNIT form.unit
-    ∷ record { tag = Tags.PAGE_NUMBER; kind = Tags.SHORT; count = 2; value = two k ++ two total } ∷ []
+    ∷ record { tag = Tags.PAGE_NUMBER; kind = Tags.SHORT; count = 2; value = two k ++ two total } ∷ bad_fields bad
 
 -- T4Options of rows that are coded so
 abbrev options_number : Coding → Bool → ℕ
@@ -88,15 +90,27 @@ aligned_back : (coding : Coding) (aligned : Bool) → (aligned ≡ true → codi
 aligned_back coding aligned has_eols = grind arith
 
 -- which it is
-options_found : (coding : Coding) (aligned : Bool) (total k : ℕ) (form : PageForm)
-    → written_field (options_field coding aligned ∷ last_fields total k form) Tags.T4_OPTIONS
+options_found : (coding : Coding) (aligned : Bool) (total k : ℕ) (form : PageForm) (bad : Option BadRows)
+    → written_field (options_field coding aligned ∷ last_fields total k form bad) Tags.T4_OPTIONS
     ≡ written_field (options_field coding aligned ∷ []) Tags.T4_OPTIONS
-options_found coding aligned total k form = grind arith
+options_found Mh aligned total k form bad = refl
+options_found Mr aligned total k form bad = refl
+options_found Mmr aligned total k form None = refl
+options_found Mmr aligned total k form (Some bad) = refl
 
-unit_found : (coding : Coding) (aligned : Bool) (total k : ℕ) (form : PageForm)
-    → written_field (options_field coding aligned ∷ last_fields total k form) Tags.RESOLUTION_UNIT
+unit_found : (coding : Coding) (aligned : Bool) (total k : ℕ) (form : PageForm) (bad : Option BadRows)
+    → written_field (options_field coding aligned ∷ last_fields total k form bad) Tags.RESOLUTION_UNIT
     ≡ Some (short_field Tags.RESOLUTION_UNIT form.unit)
-unit_found coding aligned total k form = grind arith
+unit_found Mh aligned total k form bad = refl
+unit_found Mr aligned total k form bad = refl
+unit_found Mmr aligned total k form bad = refl
+
+-- the fields of bad rows stand after all others
+bad_found : (coding : Coding) (aligned : Bool) (total k tag : ℕ) (form : PageForm) (bad : Option BadRows)
+    → 326 ≤ tag
+    → written_field (options_field coding aligned ∷ last_fields total k form bad) tag
+    ≡ written_field (bad_fields bad) tag
+bad_found coding aligned total k tag form bad after = grind (arith, ne_eqb)
 
 compression_small : (coding : Coding) → compression_of coding < 65536
 compression_small coding = grind arith
@@ -113,37 +127,72 @@ order_known order = grind arith
 order_back : (order : FillOrder) → (if fill_order_of order == 2 then LsbFirst else MsbFirst) ≡ order
 order_back order = grind arith
 
-pub page_fits : (q start total k : ℕ) (written : WrittenPage) → IsWritable written
-    → AllFit (page_fields q start total k written)
-page_fits q start total k written w = grind (arith, length-offsets_from, length-lengths_of)
+bad_fit : (bad : Option BadRows) → AllFit (bad_fields bad)
+bad_fit None = tt
+bad_fit (Some bad) = grind arith
 
-pub length-page_fields : (q start total k : ℕ) (written : WrittenPage) → IsWritable written
-    → length (fields_bytes (page_fields q start total k written)) ≡ to_link
-length-page_fields q start total k written w =
+-- how many fields a page has
+pub fields_counted : (q total k : ℕ) (form : PageForm) (bad : Option BadRows) (offsets byte_counts : WrittenField)
+    → length (fields_with q total k form bad offsets byte_counts) ≡ field_count bad
+fields_counted q total k form None offsets byte_counts = refl
+fields_counted q total k form (Some bad) offsets byte_counts = refl
+
+page_counted : (q start total k : ℕ) (written : WrittenPage)
+    → length (page_fields q start total k written) ≡ field_count written.bad
+page_counted q start total k written =
+    let offsets = offsets_from start written.strips in
+    let lengths = lengths_of written.strips in
+    let at = q + to_offsets written.bad in
+    fields_counted q total k written.form written.bad
+    (long_field Tags.STRIP_OFFSETS (length offsets) (one_or_offset offsets at))
+    (long_field Tags.STRIP_BYTE_COUNTS (length lengths) (one_or_offset lengths (at + 4 * length lengths)))
+
+pub few_fields : (bad : Option BadRows) → field_count bad < 65536
+few_fields None = omega arith
+few_fields (Some bad) = omega arith
+
+pub page_fits : (q start total k : ℕ) (written : WrittenPage) → length written.strips < 4294967296
+    → AllFit (page_fields q start total k written)
+page_fits q start total k written few = grind (arith, length-offsets_from, length-lengths_of, bad_fit)
+
+pub length-page_fields : (q start total k : ℕ) (written : WrittenPage) → length written.strips < 4294967296
+    → length (fields_bytes (page_fields q start total k written)) ≡ to_link written.bad
+length-page_fields q start total k written few =
     let fields = page_fields q start total k written in
     omega (
       arith,
-      length-append (two field_count) (flat_map field_bytes fields),
+      length-append (two (length fields)) (flat_map field_bytes fields),
+      page_counted q start total k written,
       length-fields fields
-          (page_fits q start total k written w),
+          (page_fits q start total k written few),
     )
+
+-- a page that can be written has fewer strips than that
+pub few_strips : (written : WrittenPage) → IsWritable written → length written.strips < 4294967296
+few_strips written w = grind arith
 
 -- the number of entries
 count_there : (file : List ℕ) (q start total k : ℕ) (written : WrittenPage) → IsPageAt file q start total k written
-    → entry_count Little file q ≡ field_count
-count_there file q start total k written here = search (rules, number_there)
+    → entry_count Little file q ≡ field_count written.bad
+count_there file q start total k written here =
+    let fields = page_fields q start total k written in
+    let count = page_counted q start total k written in
+    number_there 2 (at_left (two (length fields)) (flat_map field_bytes fields) here.fields)
+    (omega (arith, count, few_fields written.bad))
+    ∙ count
 
 -- the parts of what stands after a directory
-record ValuesThere (file : List ℕ) (q : ℕ) (form : PageForm) (offsets lengths : List ℕ) : Type 0 where
-  x : HasBytesAt file (q + to_x) (rational_bytes form.x)
-  y : HasBytesAt file (q + to_y) (rational_bytes form.y)
-  offsets_there : HasBytesAt file (q + to_offsets) (array_bytes offsets)
-  lengths_there : HasBytesAt file (q + to_offsets + length (array_bytes offsets)) (array_bytes lengths)
+record ValuesThere (file : List ℕ) (q : ℕ) (form : PageForm) (bad : Option BadRows) (offsets lengths : List ℕ)
+    : Type 0 where
+  x : HasBytesAt file (q + to_x bad) (rational_bytes form.x)
+  y : HasBytesAt file (q + to_y bad) (rational_bytes form.y)
+  offsets_there : HasBytesAt file (q + to_offsets bad) (array_bytes offsets)
+  lengths_there : HasBytesAt file (q + to_offsets bad + length (array_bytes offsets)) (array_bytes lengths)
 
-values_there : (file : List ℕ) (q : ℕ) (form : PageForm) (offsets lengths : List ℕ)
-    → HasBytesAt file (q + to_x) (values_bytes form offsets lengths)
-    → ValuesThere file q form offsets lengths
-values_there file q form offsets lengths h =
+values_there : (file : List ℕ) (q : ℕ) (form : PageForm) (bad : Option BadRows) (offsets lengths : List ℕ)
+    → HasBytesAt file (q + to_x bad) (values_bytes form offsets lengths)
+    → ValuesThere file q form bad offsets lengths
+values_there file q form bad offsets lengths h =
     let x = rational_bytes form.x in
     let y = rational_bytes form.y in
     let front = at_left (x ++ y ++ array_bytes offsets) (array_bytes lengths) h in
@@ -179,9 +228,12 @@ module _ (file : List ℕ) (q start total k : ℕ) (written : WrittenPage) (know
 
     what_is_read : (entries Little file q ≡ entries_read) × HasValues file (q + 2) fields
     what_is_read =
-        let after = at_right (two field_count) (flat_map field_bytes fields) known.here.fields in
-        let read = entries_there file (q + 2) fields (page_fits q start total k written known.writable) after in
-        (rw (count_there file q start total k written known.here) read.0, read.1)
+        let after = at_right (two (length fields)) (flat_map field_bytes fields) known.here.fields in
+        let read = entries_there file (q + 2) fields (page_fits q start total k written (few_strips written
+        known.writable)) after in (
+          rw (count_there file q start total k written known.here, sym (page_counted q start total k written)) read.0,
+          read.1,
+        )
 
     values : HasValues file (q + 2) fields
     values = what_is_read.1
@@ -199,8 +251,8 @@ module _ (file : List ℕ) (q start total k : ℕ) (written : WrittenPage) (know
     between : (low high n : ℕ) → low ≤ n → n ≤ high → is_between low high n ≡ true
     between low high n above below = grind arith
 
-    parts : ValuesThere file q written.form (offsets_from start written.strips) (lengths_of written.strips)
-    parts = values_there file q written.form (offsets_from start written.strips) (lengths_of written.strips)
+    parts : ValuesThere file q written.form written.bad (offsets_from start written.strips) (lengths_of written.strips)
+    parts = values_there file q written.form written.bad (offsets_from start written.strips) (lengths_of written.strips)
         known.here.values
 
     resolution_there : resolution_in Little file entries_read ≡ record
@@ -208,21 +260,25 @@ module _ (file : List ℕ) (q start total k : ℕ) (written : WrittenPage) (know
     resolution_there =
         let w = known.writable in
         let inside = at_inside (rational_bytes written.form.y) parts.y in
-        let x = rational_back file (q + 2) Tags.X_RESOLUTION (q + to_x) written.form.x fields values refl
+        let x = rational_back file (q + 2) Tags.X_RESOLUTION (q + to_x written.bad) written.form.x fields values refl
         (omega (arith, inside, known.small))
         w.limits.x parts.x in
-        let y = rational_back file (q + 2) Tags.Y_RESOLUTION (q + to_y) written.form.y fields values refl
+        let y = rational_back file (q + 2) Tags.Y_RESOLUTION (q + to_y written.bad) written.form.y fields values refl
         (omega (arith, inside, known.small))
         w.limits.y parts.y in
         let unit = short Tags.RESOLUTION_UNIT written.form.unit (Some 2) (is_between 1 3) Unsupported
         (between 1 3 written.form.unit w.limits.some_unit w.limits.unit)
-        (unit_found written.form.coding written.form.aligned total k written.form) (omega (arith, w.limits.unit)) in
+        (unit_found written.form.coding written.form.aligned total k written.form written.bad) (omega (
+          arith,
+          w.limits.unit,
+        )) in
         rw (x, y, unit) refl
 
     offsets_there : ArrayThere file entries_read Tags.STRIP_OFFSETS (offsets_from start written.strips)
     offsets_there =
         let some = some_strips written known.writable in
-        array_back file (q + 2) Tags.STRIP_OFFSETS (q + to_offsets) (offsets_from start written.strips) fields values
+        array_back file (q + 2) Tags.STRIP_OFFSETS (q + to_offsets written.bad) (offsets_from start written.strips)
+        fields values
         refl
         (omega (arith, some, length-offsets_from start written.strips)) known.small (λ _. parts.offsets_there)
 
@@ -233,8 +289,8 @@ module _ (file : List ℕ) (q start total k : ℕ) (written : WrittenPage) (know
         let offsets_len = length-offsets_from start written.strips in
         let lengths_len = length-lengths_of written.strips in
         let some = some_strips written known.writable in
-        let offset : 2 ≤ length lengths → q + to_offsets + length (array_bytes offsets)
-        ≡ q + to_offsets + 4 * length lengths =
+        let offset : 2 ≤ length lengths → q + to_offsets written.bad + length (array_bytes offsets)
+        ≡ q + to_offsets written.bad + 4 * length lengths =
         λ many. omega (
           arith,
           many,
@@ -243,7 +299,8 @@ module _ (file : List ℕ) (q start total k : ℕ) (written : WrittenPage) (know
           offsets_len,
           lengths_len,
         ) in
-        array_back file (q + 2) Tags.STRIP_BYTE_COUNTS (q + to_offsets + 4 * length lengths) lengths fields values refl
+        array_back file (q + 2) Tags.STRIP_BYTE_COUNTS (q + to_offsets written.bad + 4 * length lengths) lengths fields
+        values refl
         (omega (arith, some, lengths_len)) known.small (λ many. at_offset (offset many) parts.lengths_there)
 
     -- so the page has the form that was written
@@ -268,7 +325,7 @@ module _ (file : List ℕ) (q start total k : ℕ) (written : WrittenPage) (know
         let in_strip = long Tags.ROWS_PER_STRIP form.rows_per_strip (Some (2 ^ 32 - 1)) (nat_lt 0) BadField
         (lt-ltb _ _ limits.some_rows_per_strip) refl (omega (arith, limits.rows_per_strip, limits.rows)) in
         let options = options_from form.coding form.aligned file (q + 2) fields values
-        (options_found form.coding form.aligned total k form) in
+        (options_found form.coding form.aligned total k form written.bad) in
         let least : min form.rows_per_strip form.rows ≡ form.rows_per_strip = omega (arith, limits.rows_per_strip) in
         rw (
           width,
@@ -308,9 +365,41 @@ module _ (file : List ℕ) (q start total k : ℕ) (written : WrittenPage) (know
         known.here.strips
         offsets_there lengths_there)
 
+    -- and its bad rows are read
+    absent_there : (tag : ℕ) → written_field fields tag ≡ None → optional_scalar Little file entries_read tag ≡ None
+    unfolding scalar
+    absent_there tag none = rw (optional_scalar, scalar, no_field file (q + 2) tag fields none) refl
+
+    bad_of : (bad : Option BadRows) → written.bad ≡ bad
+        → ForSome bad (λ bad. (bad.count < 4294967296) × (bad.consecutive < 4294967296))
+        → received Little file q ≡ said bad
+    unfolding received
+    bad_of None is small =
+        let none = λ (tag : ℕ) (after : 326 ≤ tag). bad_found written.form.coding written.form.aligned total k tag
+        written.form written.bad after ∙ ap (λ b. written_field (bad_fields b) tag) is in
+        rw (
+          what_is_read.0,
+          absent_there Tags.BAD_FAX_LINES (none 326 (omega arith)),
+          absent_there Tags.CLEAN_FAX_DATA (none 327 (omega arith)),
+          absent_there Tags.CONSECUTIVE_BAD_FAX_LINES (none 328 (omega arith)),
+        ) refl
+    bad_of (Some bad) is small =
+        let found = λ (tag : ℕ) (after : 326 ≤ tag). bad_found written.form.coding written.form.aligned total k tag
+        written.form written.bad after ∙ ap (λ b. written_field (bad_fields b) tag) is in
+        let count = long Tags.BAD_FAX_LINES bad.count None (λ _. true) BadField refl (found 326 (omega arith)) (small
+        bad refl).0 in
+        let clean = short Tags.CLEAN_FAX_DATA 1 None (λ _. true) BadField refl (found 327 (omega arith)) (omega arith)
+        in
+        let consecutive = long Tags.CONSECUTIVE_BAD_FAX_LINES bad.consecutive None (λ _. true) BadField refl
+        (found 328 (omega arith)) (small bad refl).1 in
+        rw (what_is_read.0, optional_scalar, count, clean, consecutive) refl
+
+    bad_there : received Little file q ≡ said written.bad
+    bad_there = bad_of written.bad refl known.writable.bad
+
     -- a page that stands in a file is read as it was written
     pub page_back : IsReadAt file q written
-    page_back = record { form = form_there; strips = strip_back }
+    page_back = record { form = form_there; strips = strip_back; bad = bad_there }
 
 -- its directory is whole
 pub directory_whole : (file : List ℕ) (q start total k : ℕ) (written : WrittenPage)
@@ -320,12 +409,12 @@ directory_whole file q start total k written here =
     let after = at_inside (values_bytes written.form (offsets_from start written.strips) (lengths_of written.strips))
     here.values in
     let count : is_inside file q 2 ≡ true = le-leb _ _ (omega (arith, after)) in
-    let all : is_inside file q to_x ≡ true = le-leb _ _ (omega (arith, after)) in
+    let all : is_inside file q (6 + 12 * field_count written.bad) ≡ true = le-leb _ _ (omega (arith, after)) in
     rw (count_there file q start total k written here, count, all) refl
 
 -- and its next offset is the number at its last four bytes
 pub next_there : (file : List ℕ) (q start total k : ℕ) (written : WrittenPage) → IsPageAt file q start total k written
-    → next_offset Little file q ≡ number_at Little 4 file (q + to_link)
+    → next_offset Little file q ≡ number_at Little 4 file (q + to_link written.bad)
 next_there file q start total k written here =
-    let offset : q + 2 + 12 * field_count ≡ q + to_link = omega arith in
+    let offset : q + 2 + 12 * field_count written.bad ≡ q + to_link written.bad = omega arith in
     rw (count_there file q start total k written here, offset) refl

@@ -1,10 +1,11 @@
 -- TIFF files as they are written (TIFF 6.0, sections 2, 8, 11 and 12; RFC 2306, profile F).
 -- A definition without a citation is this project's profile.
 use Rattle.std.specs.Prelude.{ℕ, ◌+◌, ◌*◌, ◌%◌, Bool, if◌then◌else◌, List, [], ◌∷◌, ◌++◌, length}
-use Rattle.std.specs.Prelude.{map, take, drop, replicate, flat_map, codes}
+use Rattle.std.specs.Prelude.{map, take, drop, replicate, flat_map, codes, Option, Some, None}
 use Rattle.byteorder.specs.Endian.{little_bytes}
 use Rattle.fax_files.specs.Page.{Coding, Mh, Mr, Mmr, fill_order_of, PageForm}
 use Rattle.fax_files.specs.declared.tags.TheConstants as Tags
+pub use Rattle.fax_files.specs.declared.bad_rows.BadRows.{BadRows}
 
 -- numbers of two and of four bytes, all little-endian
 abbrev pub two : ℕ → List ℕ
@@ -53,14 +54,49 @@ abbrev pub array_bytes : List ℕ → List ℕ
 array_bytes (n ∷ []) = []
 array_bytes numbers = flat_map four numbers
 
--- how far after a directory's first byte its next offset stands: after the number of its fields and
--- twelve bytes of each of the sixteen
-abbrev pub to_link : ℕ
-to_link = 2 + 12 * 16
+-- a page to be written: its form, the bytes of its strips, and its bad rows where some are to be
+-- said
+pub record WrittenPage : Type 0 where
+  pub form : PageForm
+  pub strips : List (List ℕ)
+  pub bad : Option BadRows
+
+-- a page of which no bad rows are said
+abbrev pub page_of : PageForm → List (List ℕ) → WrittenPage
+page_of form strips = record { form = form; strips = strips; bad = None }
+
+-- the fields that say the bad rows of a page: how many there are, that others stand in their
+-- places, and how many came one after another at most
+-- (RFC 2306, BadFaxLines, CleanFaxData and ConsecutiveBadFaxLines)
+abbrev pub bad_fields : Option BadRows → List WrittenField
+bad_fields None = []
+bad_fields (Some bad) =
+    field_of Tags.BAD_FAX_LINES Tags.LONG 1 (four bad.count)
+    ∷ field_of Tags.CLEAN_FAX_DATA Tags.SHORT 1 (two 1 ++ two 0)
+    ∷ field_of Tags.CONSECUTIVE_BAD_FAX_LINES Tags.LONG 1 (four bad.consecutive)
+    ∷ []
+
+-- how many fields the directory of each page has
+abbrev pub form_fields : ℕ
+form_fields = 16
+
+-- how many that of a page has which says these bad rows
+abbrev pub field_count : Option BadRows → ℕ
+field_count bad = form_fields + length (bad_fields bad)
+
+-- how far after a directory's first byte the bytes after so many fields stand: after their number
+-- and twelve bytes of each
+abbrev pub after_fields : ℕ → ℕ
+after_fields count = 2 + 12 * count
+
+-- how far after it its next offset stands
+abbrev pub to_link : Option BadRows → ℕ
+to_link bad = after_fields (field_count bad)
 
 -- the fields of the directory at q of page k of `total`, of which these two place the strips
-abbrev pub fields_with : ℕ → ℕ → ℕ → PageForm → WrittenField → WrittenField → List WrittenField
-fields_with q total k form offsets byte_counts =
+abbrev pub fields_with : ℕ → ℕ → ℕ → PageForm → Option BadRows → WrittenField → WrittenField
+    → List WrittenField
+fields_with q total k form bad offsets byte_counts =
     -- 2: one page of several
     field_of Tags.NEW_SUBFILE_TYPE Tags.LONG 1 (four 2)
     ∷ field_of Tags.IMAGE_WIDTH Tags.LONG 1 (four form.width)
@@ -73,12 +109,12 @@ fields_with q total k form offsets byte_counts =
     ∷ field_of Tags.SAMPLES_PER_PIXEL Tags.SHORT 1 (two 1 ++ two 0)
     ∷ field_of Tags.ROWS_PER_STRIP Tags.LONG 1 (four form.rows_per_strip)
     ∷ byte_counts
-    ∷ field_of Tags.X_RESOLUTION Tags.RATIONAL 1 (four (q + (to_link + 4)))
-    ∷ field_of Tags.Y_RESOLUTION Tags.RATIONAL 1 (four (q + (to_link + 12)))
+    ∷ field_of Tags.X_RESOLUTION Tags.RATIONAL 1 (four (q + (to_link bad + 4)))
+    ∷ field_of Tags.Y_RESOLUTION Tags.RATIONAL 1 (four (q + (to_link bad + 12)))
     ∷ options_field form.coding form.aligned
     ∷ field_of Tags.RESOLUTION_UNIT Tags.SHORT 1 (two form.unit ++ two 0)
     ∷ field_of Tags.PAGE_NUMBER Tags.SHORT 2 (two k ++ two total)
-    ∷ []
+    ∷ bad_fields bad
 
 -- the offset of the directory of a page whose strips begin at `start`: the first even one after
 -- the strips
@@ -89,16 +125,17 @@ directory_offset start strips =
 -- what is written of page k of `total` from `start` on: its strips, a zero byte if the offset is
 -- odd, its directory, of which the next offset is 0, its resolutions, and the offsets and byte
 -- counts if it has more than one strip
-unfoldable pub page_bytes : ℕ → ℕ → ℕ → PageForm → List (List ℕ) → List ℕ
-page_bytes start total k form strips =
-    let all = flat_map (λ strip. strip) strips in
-    let offsets = offsets_from start strips in
-    let lengths = map length strips in
-    let q = directory_offset start strips in
-    let offset = q + (to_link + 20) in
+unfoldable pub page_bytes : ℕ → ℕ → ℕ → WrittenPage → List ℕ
+page_bytes start total k page =
+    let form = page.form in
+    let all = flat_map (λ strip. strip) page.strips in
+    let offsets = offsets_from start page.strips in
+    let lengths = map length page.strips in
+    let q = directory_offset start page.strips in
+    let offset = q + (to_link page.bad + 20) in
     let at_offsets = four (one_or_offset offsets offset) in
     let at_lengths = four (one_or_offset lengths (offset + 4 * length lengths)) in
-    let fields = fields_with q total k form
+    let fields = fields_with q total k form page.bad
     (field_of Tags.STRIP_OFFSETS Tags.LONG (length offsets) at_offsets)
     (field_of Tags.STRIP_BYTE_COUNTS Tags.LONG (length lengths) at_lengths) in
     all ++ replicate ((start + length all) % 2) 0
@@ -113,25 +150,20 @@ pub record Written : Type 0 where
   pub link : ℕ
 
 -- a file with page k of `total` at its end, to whose directory the last offset leads
-unfoldable pub with_page : Written → ℕ → ℕ → PageForm → List (List ℕ) → Written
-with_page old total k form strips =
-    let offset = directory_offset (length old.bytes) strips in
+unfoldable pub with_page : Written → ℕ → ℕ → WrittenPage → Written
+with_page old total k page =
+    let offset = directory_offset (length old.bytes) page.strips in
     record {
       bytes = take old.link old.bytes ++ four offset ++ drop (old.link + 4) old.bytes
-          ++ page_bytes (length old.bytes) total k form strips;
-      link = offset + to_link;
+          ++ page_bytes (length old.bytes) total k page;
+      link = offset + to_link page.bad;
     }
-
--- a page to be written: its form and the bytes of its strips
-pub record WrittenPage : Type 0 where
-  pub form : PageForm
-  pub strips : List (List ℕ)
 
 -- a file with the pages from page k on at its end
 unfoldable pub with_pages : Written → ℕ → ℕ → List WrittenPage → Written
 with_pages old total k [] = old
 with_pages old total k (page ∷ pages) =
-    with_pages (with_page old total k page.form page.strips) total (k + 1) pages
+    with_pages (with_page old total k page) total (k + 1) pages
 
 -- the file of these pages, of which the header's first offset is 0 at first
 abbrev pub file_of : List WrittenPage → List ℕ

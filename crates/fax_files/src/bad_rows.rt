@@ -1,4 +1,6 @@
-//! What the receiver of a page counted of bad rows (RFC 2306).
+//! What the receiver of a page counted of bad rows, and what a page that is written says of them
+//! (RFC
+//! 2306).
 
 ghost use Rattle.std.specs.Prelude.{◌≡◌};
 ghost use Rattle.fax_files.specs.BadRows.{optional_scalar};
@@ -21,6 +23,16 @@ pub struct Received {
     /// How many bad rows came one after another at most (RFC 2306, ConsecutiveBadFaxLines), 0 to
     /// 4,294,967,295.
     pub consecutive: Option<u32>,
+}
+
+/// How many rows of a page that is written are bad, others of which stand in their places
+/// (RFC 2306, CleanFaxData).
+#[derive(Clone, Copy, Debug, PartialEq, Eq)]
+pub struct BadRows {
+    /// How many they are (RFC 2306, BadFaxLines).
+    pub count: u32,
+    /// How many came one after another at most (RFC 2306, ConsecutiveBadFaxLines).
+    pub consecutive: u32,
 }
 
 impl<'a> Directory<'a> {

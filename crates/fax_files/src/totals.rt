@@ -1,23 +1,40 @@
 //! How many pages a file has that is written page by page, reported in each of them.
 ghost use Rattle.std.specs.Prelude.{◌≡◌, ℕ, ◌+◌, ◌≤◌, ◌++◌, length, take, drop};
+ghost use Rattle.fax_files.specs.declared.Endian.TheVariants.{Little};
+ghost use Rattle.fax_files.specs.Directory.{number_at};
 ghost use Rattle.fax_files.specs.Layout.{two};
 ghost use Rattle.fax_files.specs.views.Writing as Spec;
 
 use crate::Endian;
 use crate::numbers::File;
-use crate::written::TO_NEXT_OFFSET;
+use crate::written::{FORM_FIELDS, after_fields};
 use byteorder::{ByteOrder, LittleEndian};
 
-/// Where the link of the page stands to whose directory a link leads.
-fn next_link(file: &[u8], link: usize) -> usize
-    requires { link + 4 ≤ length file.now }
-    ensures { result ≡ Spec.next_link file.now link }
+/// The directory to which a link leads.
+#[derive(Drop)]
+struct Linked {
+    /// Its offset.
+    directory: usize,
+    /// Where its own link stands.
+    link: usize,
+}
+
+/// The directory to which a link leads.
+fn follow(file: &[u8], link: usize) -> Linked
+    requires { Spec.IsLinkToPage file.now link }
+    ensures directory { result.directory ≡ number_at Little 4 file.now link }
+    ensures link { result.link ≡ Spec.next_link file.now link }
 {
     let file = File {
         bytes: file,
         endian: Endian::Little,
     };
-    file.u32_at(link) as usize + TO_NEXT_OFFSET as usize
+    let directory = file.u32_at(link) as usize;
+    let fields = file.u16_at(directory);
+    Linked {
+        directory,
+        link: directory + after_fields(fields) as usize,
+    }
 }
 
 /// Writes a number of two bytes at an offset.
@@ -36,9 +53,12 @@ pub fn put_totals(file: &mut [u8], pages: u16)
     requires pages { (last : ℕ) × Spec.ArePagesAfter file.old pages 4 last }
     ensures { file.new ≡ Spec.with_totals pages pages 4 file.old }
 {
+    // PageNumber is the last of the fields that each page has, and the total its second number.
+    let to_total = after_fields(FORM_FIELDS) as usize - 2;
     let mut link = 4;
     for _ in 0..pages {
-        link = next_link(file, link);
-        set_u16(file, link - 2, pages);
+        let page = follow(file, link);
+        set_u16(file, page.directory + to_total, pages);
+        link = page.link;
     }
 }

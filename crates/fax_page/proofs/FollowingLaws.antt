@@ -22,7 +22,7 @@ use Rattle.fax_page.specs.Lines.{check_first, first_bits, codes_after, read_code
 use Rattle.fax_page.specs.laws.Lines.{AreLines}
 use Rattle.fax_page.specs.code.Starts.{BeginsBelowEleven, IsEndOfLine}
 use Rattle.fax_page.specs.laws.Following.{ReadsInPieces, StaysWhateverFollows}
-use Rattle.fax_page.specs.laws.Writer.{last_of}
+use Rattle.fax_page.specs.views.Writer.{last_of}
 use Rattle.fax_page.proofs.FrontLemmas.{EndsWith, IsFront, answer_of, at_end, fault_of, is_read, joined}
 use Rattle.fax_page.proofs.FrontLemmas.{one_front, onwards, same, stops, two_front}
 use Rattle.fax_page.proofs.LineParts.{begins_of, marker_of}

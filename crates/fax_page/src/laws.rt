@@ -67,8 +67,8 @@ pub fn strips_are_read_on()
     ensures { StripsAreReadOn }
 {}
 
-/// A strip is written row by row: where `StripWriter::put_row` puts rows one after another, the
-/// bytes that `finish` gives are the strip of these rows.
+/// A strip is written row by row: where `StripWriter::put_row` puts rows one after another, and
+/// `put_white_rows` white ones, the bytes that `finish` gives are the strip of these rows.
 pub fn strips_are_written_row_by_row()
     ensures { WritesRowByRow }
 {}

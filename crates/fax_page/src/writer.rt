@@ -1,11 +1,15 @@
 //! A writer of strips.
-ghost use Rattle.std.specs.Prelude.{◌≡◌, ◌++◌, ◌<◌, ◌≤◌, length, false, All, IfOk, OnOk};
+ghost use Rattle.std.specs.Prelude.{◌≡◌, ℕ, ◌+◌, ◌*◌, ◌%◌, ◌++◌, ◌<◌, ◌≤◌, length, true};
+ghost use Rattle.std.specs.Prelude.{false, replicate, All, IfOk, OnOk};
 ghost use Rattle.fax_bits.specs.views.Sink.{Appends};
 ghost use Rattle.fax_bits.specs.Bits.{packed};
+ghost use Rattle.fax_page.specs.Lines.{white_row};
 ghost use Rattle.fax_page.specs.Strip as Coded;
+ghost use Rattle.fax_page.specs.views.Strip.{IsStripForm};
 
 use crate::{Coding, Dimension, StripForm};
-use fax_rows::{BitSink, Memory, Row, put_1d, put_2d};
+use fax_bits::put_run;
+use fax_rows::{BitSink, Colour, Memory, Row, put_1d, put_2d};
 use std::alloc::Global;
 use std::marker::Model;
 
@@ -14,6 +18,12 @@ const EOL: u32 = 1;
 
 /// How many bits an EOL has.
 const EOL_BITS: u32 = 12;
+
+/// How many rows a group has at least that can be put again, where each is not of more.
+const LEAST_GROUP: u32 = 64;
+
+/// How many groups are put at least by putting one again.
+const LEAST_GROUPS: u32 = 4;
 
 /// How row `i` of a strip is written: in MR one-dimensional exactly where `i` is a multiple of `k`
 /// (T.4, section 4.2.1.1).
@@ -101,6 +111,175 @@ fn put_line(
     put_codes(sink, dimension, reference, row)
 }
 
+/// Puts so many ones.
+fn put_ones(sink: &mut BitSink, count: u32) -> Result<(), Memory>
+    ensures ok { OnOk result (Appends sink.old (replicate count true) sink.new) }
+    ensures same_order { sink.new.order ≡ sink.old.order }
+{
+    for _ in 0..count / 32 {
+        sink.put(u32::MAX, 32)?;
+    }
+    let len = count % 32;
+    sink.put((1 << len) - 1, len)
+}
+
+/// Puts a white row that is coded so over another: what stands before its codes, and its codes
+/// (T.4, sections 4.1.1 and 4.2.1.3.3).
+fn put_white_line(sink: &mut BitSink, form: StripForm, dimension: Dimension) -> Result<(), Memory>
+    requires limits { IsStripForm form }
+    ensures ok { let white = white_row form.width in OnOk result (Appends sink.old
+        (Coded.start_bits form.coding form.aligned (length sink.old.bits) dimension
+        ++ Coded.row_bits dimension white white) sink.new) }
+    ensures same_order { sink.new.order ≡ sink.old.order }
+{
+    fax_rows::laws::white_rows_are_written();
+    put_start(sink, form, dimension)?;
+    match dimension {
+        Dimension::OneDimensional => put_run(sink, Colour::White, form.width),
+        // Its a1 is under b1, where the rows end.
+        Dimension::TwoDimensional => sink.put(1, 1),
+    }
+}
+
+/// How a row is written that is so far after the last multiple of `k`.
+fn dimension_at(coding: Coding, place: u32) -> Dimension
+    ensures { (k i : ℕ) → place ≡ i % k → result ≡ Coded.written_dimension coding k i }
+{
+    match coding {
+        Coding::Mh => Dimension::OneDimensional,
+        Coding::Mr if place == 0 => Dimension::OneDimensional,
+        Coding::Mr | Coding::Mmr => Dimension::TwoDimensional,
+    }
+}
+
+/// How far the row after one that is so far after the last multiple of `k` is after the last of
+/// them.
+fn next_place(place: u32, k: u32) -> u32
+    requires { place < k }
+    ensures { (i : ℕ) → place ≡ i % k → result ≡ (i + 1) % k }
+{
+    if place + 1 == k { 0 } else { place + 1 }
+}
+
+/// Puts so many white rows from row `first` on over a white row, each as it is coded.
+fn put_each_white_line(
+    sink: &mut BitSink,
+    form: StripForm,
+    k: u32,
+    first: u32,
+    count: u32,
+) -> Result<(), Memory>
+    requires limits { IsStripForm form }
+    requires some_k { 0 < k }
+    ensures ok { let white = white_row form.width in OnOk result (Appends sink.old
+        (Coded.coded_lines form k (length sink.old.bits) first white (replicate count white))
+        sink.new) }
+    ensures same_order { sink.new.order ≡ sink.old.order }
+{
+    // A remainder at each row would cost more than the row.
+    let mut place = first % k;
+    for _ in 0..count {
+        put_white_line(sink, form, dimension_at(form.coding, place))?;
+        place = next_place(place, k);
+    }
+    Ok(())
+}
+
+/// How many rows a group has that can be put again: in MR a multiple of `k`.
+fn group_rows(coding: Coding, k: u32) -> u32
+    requires { 0 < k }
+    ensures some { 0 < result }
+    ensures same_place { coding ≡ Coding.Mr → result % k ≡ 0 }
+{
+    match coding {
+        Coding::Mr if k < LEAST_GROUP => LEAST_GROUP - LEAST_GROUP % k,
+        Coding::Mr => k,
+        Coding::Mh | Coding::Mmr => LEAST_GROUP,
+    }
+}
+
+/// Puts a group of white rows so often, from row `first` on over a white row.
+fn put_groups(
+    sink: &mut BitSink,
+    form: StripForm,
+    k: u32,
+    first: u32,
+    group: &BitSink,
+    rows: u32,
+    count: u32,
+) -> Result<(), Memory>
+    requires unaligned { form.aligned ≡ false }
+    requires some_k { 0 < k }
+    requires same_place { form.coding ≡ Coding.Mr → rows % k ≡ 0 }
+    requires group { let white = white_row form.width in
+        group.now.bits ≡ Coded.coded_lines form k 0 first white (replicate rows white) }
+    ensures ok { let white = white_row form.width in OnOk result (Appends sink.old
+        (Coded.coded_lines form k (length sink.old.bits) first white
+        (replicate (count * rows) white)) sink.new) }
+    ensures same_order { sink.new.order ≡ sink.old.order }
+{
+    for _ in 0..count {
+        sink.put_bits_of(group)?;
+    }
+    Ok(())
+}
+
+/// Puts so many white rows from row `first` on over a white row: where they are many, a group of
+/// them again and again.
+fn put_many_white_lines(
+    alloc: Global,
+    sink: &mut BitSink,
+    form: StripForm,
+    k: u32,
+    first: u32,
+    count: u32,
+) -> Result<(), Memory>
+    requires limits { IsStripForm form }
+    requires some_k { 0 < k }
+    requires upcoming { first + count ≤ form.rows }
+    ensures ok { let white = white_row form.width in OnOk result (Appends sink.old
+        (Coded.coded_lines form k (length sink.old.bits) first white (replicate count white))
+        sink.new) }
+    ensures same_order { sink.new.order ≡ sink.old.order }
+{
+    let rows = group_rows(form.coding, k);
+    let groups = count / rows;
+    if form.aligned || groups < LEAST_GROUPS {
+        return put_each_white_line(sink, form, k, first, count);
+    }
+    let mut group = BitSink::new(alloc, form.order);
+    put_each_white_line(&mut group, form, k, first, rows)?;
+    put_groups(sink, form, k, first, &group, rows, groups)?;
+    let done = groups * rows;
+    put_each_white_line(sink, form, k, first + done, count - done)
+}
+
+/// Puts so many white rows from row `first` on over a white row, in time by the bytes that they
+/// take.
+fn put_white_lines(
+    alloc: Global,
+    sink: &mut BitSink,
+    form: StripForm,
+    k: u32,
+    first: u32,
+    count: u32,
+) -> Result<(), Memory>
+    requires limits { IsStripForm form }
+    requires some_k { 0 < k }
+    requires upcoming { first + count ≤ form.rows }
+    ensures ok { let white = white_row form.width in OnOk result (Appends sink.old
+        (Coded.coded_lines form k (length sink.old.bits) first white (replicate count white))
+        sink.new) }
+    ensures same_order { sink.new.order ≡ sink.old.order }
+{
+    fax_rows::laws::white_rows_are_written();
+    match form.coding {
+        Coding::Mh | Coding::Mr => put_many_white_lines(alloc, sink, form, k, first, count),
+        // Each is a 1 and nothing else.
+        Coding::Mmr => put_ones(sink, count),
+    }
+}
+
 /// Puts what stands after a strip's last row: the end of the facsimile block in MMR, two EOLs
 /// (T.6, End-of-facsimile block).
 #[tactic(auto, unfolding(fax_bits::specs::Bits::code_bits))]
@@ -125,6 +304,7 @@ fn are_bytes(bytes: &[u8])
 // row, and to keep it costs no more than to write it.
 #[derive(Drop)]
 pub struct StripWriter {
+    alloc: Global,
     form: StripForm,
     k: u32,
     sink: BitSink,
@@ -152,8 +332,9 @@ impl Model for StripWriter {
 }
 
 impl StripWriter {
-    ghost use Rattle.fax_page.specs.views.Strip.{IsStripForm};
-    ghost use Rattle.fax_page.specs.views.Writer.{writer_beginning, IsPutRow, FinishesAs};
+    ghost use Rattle.fax_page.specs.views.Writer.{writer_beginning, IsPutRow, IsPutRows};
+    ghost use Rattle.fax_page.specs.views.Writer.{FinishesAs};
+    ghost use Rattle.fax_page.specs.code.Writer.{with_bits, with_rows};
 
     /// A strip of this form, before its first row. In MR every `k`-th row is one-dimensional, from
     /// the first on (T.4, section 4.2.1.1); in MH and MMR `k` is not looked at.
@@ -168,6 +349,7 @@ impl StripWriter {
     {
         let last = Row::white(alloc, form.width)?;
         Ok(StripWriter {
+            alloc,
             form,
             k,
             sink: BitSink::new(alloc, form.order),
@@ -196,6 +378,68 @@ impl StripWriter {
             Ok(()) => {
                 self.last.set_from(row);
                 self.row += 1;
+                Ok(())
+            }
+            Err(Memory) => {
+                self.refused = true;
+                Err(Memory)
+            }
+        }
+    }
+
+    /// Puts the codes of so many white rows, one or more: the first over the last row, and the
+    /// others over a white one.
+    fn put_white_codes(&mut self, count: u32) -> Result<(), Memory>
+        requires some { 0 < count }
+        requires upcoming { self.old.row + count ≤ self.old.form.rows }
+        ensures ok { OnOk result (self.new ≡ with_rows self.old
+            (replicate count (white_row self.old.form.width))) }
+        ensures same_but_bits { self.new ≡ with_bits self.old self.new.bits }
+    {
+        if self.last.is_white() {
+            return put_white_lines(
+                self.alloc,
+                &mut self.sink,
+                self.form,
+                self.k,
+                self.row,
+                count,
+            );
+        }
+        let white = Row::white(self.alloc, self.form.width)?;
+        let dimension = written_dimension(self.form.coding, self.k, self.row);
+        put_line(&mut self.sink, self.form, dimension, &self.last, &white)?;
+        put_white_lines(
+            self.alloc,
+            &mut self.sink,
+            self.form,
+            self.k,
+            self.row + 1,
+            count - 1,
+        )
+    }
+
+    /// Puts so many white rows next, as `put_row` puts them, in time by the bytes that they take:
+    /// in MMR a row takes a bit.
+    ///
+    /// # Errors
+    ///
+    /// `Memory` where a growth was refused, and at each later call.
+    pub fn put_white_rows(&mut self, count: u32) -> Result<(), Memory>
+        requires { self.old.row + count ≤ self.old.form.rows }
+        ensures { IsPutRows self.old (replicate count (white_row self.old.form.width)) result
+            self.new }
+    {
+        if self.refused {
+            return Err(Memory);
+        }
+        if count == 0 {
+            return Ok(());
+        }
+        match self.put_white_codes(count) {
+            Ok(()) => {
+                self.last.whiten();
+                self.row += count;
                 Ok(())
             }
             Err(Memory) => {

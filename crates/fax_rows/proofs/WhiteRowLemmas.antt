@@ -114,7 +114,7 @@ zero_bytes (suc n) m within =
     rw (take-replicate 8 m false (omega arith), drop-replicate 8 m false)
     (ap (λ bytes. 0 ∷ bytes) (zero_bytes n (m - 8) (omega arith)))
 
-white_packed : (width : ℕ) → packed_row (white width) ≡ replicate (packed_len width) 0
+pub white_packed : (width : ℕ) → packed_row (white width) ≡ replicate (packed_len width) 0
 unfolding packed_row packed
 white_packed width =
     rw (white_bits width, length-replicate width false, replicate-append-replicate width 7 false)

@@ -34,3 +34,9 @@ pub fn packing_undoes_unpacking()
     fax_bits::laws::bits_stand_by_index();
     fax_bits::laws::bits_are_packed_in_one_way();
 }
+
+/// A white row is written as one run, over another white one as a 1, and packed as zeros (T.4,
+/// sections 4.1.1 and 4.2.1.3.3; the netpbm format, P4).
+pub fn white_rows_are_written()
+    ensures { Law.WhiteRowsAreWritten }
+{}

@@ -14,8 +14,8 @@ use Rattle.fax_files.specs.Page.{most_rows}
 use Rattle.clap.proofs.WalkLemmas.{both}
 use Rattle.std.proofs.Math.Bool.{or-false}
 use Rattle.fax_tool.specs.Grammar.{AreSpelled, IsNumberText, IsSpelled, Item, Text, Use, commands, flag, most_lines}
-use Rattle.fax_tool.specs.Grammar.{name_of, number}
-use Rattle.fax_tool.specs.code.CommandEntries.{HasEntries, HasFlag, HasNumber}
+use Rattle.fax_tool.specs.Grammar.{name_of, number, form_items}
+use Rattle.fax_tool.specs.code.CommandEntries.{HasEntries, HasFlag, HasNumber, HasOptions}
 use Rattle.fax_tool.proofs.RuleLemmas.{items_at, rule_of, rules_of}
 use Rattle.fax_tool.proofs.UseLemmas.{row_of}
 use Rattle.fax_tool.proofs.ParsedRowLemmas.{default_row, filled_rows, flag_default, is_flag, same_either}
@@ -138,6 +138,16 @@ abbrev HasItsEntries : Text × List Item → Type 0
 HasItsEntries command = (uses : List Use) (words : List Text) → AreSpelled command.1 uses words
     → HasEntries command.0 (filled_rows command.1 uses)
 
+form_entries : (uses : List Use) (words : List Text) → AreSpelled form_items uses words
+    → HasOptions (filled_rows form_items uses)
+unfolding clap_on_literals
+form_entries uses words are = record {
+  order = number_entry form_items (codes "order") 2 refl refl uses words are;
+  k = number_entry form_items (codes "k") most_rows refl refl uses words are;
+  strip = number_entry form_items (codes "strip") most_rows refl refl uses words are;
+  align = flag_entry form_items (codes "align") refl refl uses words are;
+}
+
 have_entries : All HasItsEntries commands
 unfolding clap_on_literals
 have_entries = All-from_recursion HasItsEntries commands (
@@ -146,6 +156,7 @@ have_entries = All-from_recursion HasItsEntries commands (
     rows = λ is. cc;
     convert = λ is. cc;
     check = λ is. cc;
+    salvage = λ is. cc;
     known = refl;
   }),
   (
@@ -157,19 +168,16 @@ have_entries = All-from_recursion HasItsEntries commands (
       );
       convert = λ is. cc;
       check = λ is. cc;
+      salvage = λ is. cc;
       known = refl;
     }),
     (
       (λ uses words are. record {
         list = λ is. cc;
         rows = λ is. cc;
-        convert = λ is. record {
-          order = number_entry (items_at 2) (codes "order") 2 refl refl uses words are;
-          k = number_entry (items_at 2) (codes "k") most_rows refl refl uses words are;
-          strip = number_entry (items_at 2) (codes "strip") most_rows refl refl uses words are;
-          align = flag_entry (items_at 2) (codes "align") refl refl uses words are;
-        };
+        convert = λ is. form_entries uses words are;
         check = λ is. cc;
+        salvage = λ is. cc;
         known = refl;
       }),
       (
@@ -178,6 +186,7 @@ have_entries = All-from_recursion HasItsEntries commands (
           rows = λ is. cc;
           convert = λ is. cc;
           check = λ is. flag_entry (items_at 3) (codes "received") refl refl uses words are;
+          salvage = λ is. cc;
           known = refl;
         }),
         (
@@ -186,6 +195,7 @@ have_entries = All-from_recursion HasItsEntries commands (
             rows = λ is. cc;
             convert = λ is. cc;
             check = λ is. cc;
+            salvage = λ is. form_entries uses words are;
             known = refl;
           }),
           tt,

@@ -26,5 +26,6 @@ pub mod SalvageLineLemmas
 pub mod TextLemmas
 pub mod CommandLemmas
 pub mod WholeLemmas
+pub mod SalvagedOutputLemmas
 pub mod CutRunLemmas
 mod TextLawLemmas

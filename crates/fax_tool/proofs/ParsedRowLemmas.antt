@@ -1,7 +1,7 @@
 -- What the rows of a parse are, of the uses that the words make.
 use Rattle.std.proofs.Common.{arith, ◌≡◌, ◌∙◌, ◌&&◌, ◌++◌, ap, append_assoc, cond, codes, refl, sym, Bool, true, false}
 use Rattle.std.proofs.Common.{List, [], ◌∷◌}
-use Rattle.std.proofs.Common.{Option, Some, None, append-nil, is_some, map}
+use Rattle.std.proofs.Common.{Option, Some, None, append-nil, map}
 use Rattle.std.specs.Prelude.{find, not, slice_get, option_and_then, option_map}
 use Rattle.std.specs.List.{All, fold, list_all, list_any}
 use Rattle.std.specs.Option.{option_map_or}
@@ -11,7 +11,6 @@ use Rattle.clap.proofs.WalkLemmas.{find-map, list_any-map}
 use Rattle.clap.specs.Kinds.{or_else}
 use Rattle.clap.specs.Walk.{Row, Text, first_of, has_row, reading_by, rows_after, idle, nothing_held, with_default}
 use Rattle.clap.specs.Takes.{is_given}
-use Rattle.clap.specs.Facts.{explicit_source}
 use Rattle.clap.specs.Faults.{check_fault, defaults_fault, level_fault}
 use Rattle.clap.specs.declared.parser.matches.ValueSource.TheVariants.{DefaultValue}
 use Rattle.fax_tool.specs.Grammar.{Item, Use, flag, name_of, text_in}
@@ -138,12 +137,6 @@ row_used id uses = sym (find-map (λ r. bytes_eq r.id id) row_of uses)
 pub first_use : (id : Text) (uses : List Use) → first_at (row_at id (map row_of uses)) ≡ text_in uses id
 first_use id uses = grind (arith, row_used)
 
-abbrev explicit : Option Row → Bool
-explicit o = option_map_or (λ r. explicit_source r.source) o false
-
-given_use : (id : Text) (uses : List Use) → explicit (row_at id (map row_of uses)) ≡ is_some (text_in uses id)
-given_use id uses = grind (arith, row_used)
-
 -- the rows of uses, with what was left out
 abbrev pub filled_rows : List Item → List Use → List Row
 filled_rows items uses = fold with_default (map row_of uses) (rules_of items)
@@ -156,25 +149,23 @@ pub flag_filled : (id : Text) (items : List Item) (uses : List Use)
     → is_true (first_of id (filled_rows items uses)) ≡ is_true (text_in uses id)
 flag_filled id items uses = defaults_set id items (map row_of uses) ∙ ap is_true (first_use id uses)
 
-pub given_filled : (id : Text) (items : List Item) (uses : List Use) → is_no_flag id items ≡ true
-    → is_given id (filled_rows items uses) ≡ is_some (text_in uses id)
-given_filled id items uses none = ap explicit (defaults_keep id items (map row_of uses) none) ∙ given_use id uses
-
 -- ---- a level
 
-abbrev pub lacks : List Item → List Row → Bool
-lacks items rows = list_any (λ a. a.required && not (is_given a.id rows)) (rules_of items)
+-- nothing is required
+none_lacks : (items : List Item) (rows : List Row)
+    → list_any (λ a. a.required && not (is_given a.id rows)) (rules_of items) ≡ false
+none_lacks [] rows = refl
+none_lacks (item ∷ items) rows = grind (arith, none_lacks items rows)
 
 module _ (name : Text) (items : List Item) where
   abbrev pub ended : List Row → Option (List Row)
-  ended rows = cond (lacks items (fold with_default rows (rules_of items))) None
-      (Some (fold with_default rows (rules_of items)))
+  ended rows = Some (fold with_default rows (rules_of items))
 
   last_checks : (rows : List Row)
       → guard (or_else (defaults_fault rows (rules_of items))
       (check_fault (leaf name items) (fold with_default rows (rules_of items)) false))
       (Some (fold with_default rows (rules_of items))) ≡ ended rows
-  last_checks rows = grind (arith, no_defaults_fault)
+  last_checks rows = grind (arith, no_defaults_fault, none_lacks)
 
   -- a level without a fault, and its rows
   pub level_is : (words : List Text)

@@ -1,5 +1,5 @@
 -- What clap's rules are of items, and what it finds by a name.
-use Rattle.std.proofs.Common.{◌≡◌, ◌∙◌, ◌&&◌, ap, arith, refl, sym, Bool, true, ℕ, List, [], ◌∷◌, Some, is_some, map}
+use Rattle.std.proofs.Common.{◌≡◌, ◌∙◌, ◌&&◌, ap, arith, refl, sym, Bool, ℕ, List, [], ◌∷◌, Some, is_some, map}
 use Rattle.std.proofs.Math.Bool.{or-false}
 use Rattle.clap.proofs.WalkLemmas.{find-map}
 use Rattle.std.specs.Prelude.{find, not, option_map}
@@ -12,7 +12,7 @@ use Rattle.fax_tool.specs.Grammar.{Item, Text, commands, file, flag, letter, nam
 use Rattle.fax_tool.specs.code.Scan.{has_letter, has_long}
 
 abbrev pub letter_rule : ℕ → Rule
-letter_rule x = record (new_rule (x ∷ [])) { short = Some x; required = true }
+letter_rule x = record (new_rule (x ∷ [])) { short = Some x }
 
 -- the rule that an item is, when the command is built
 abbrev pub rule_of : Item → Rule

@@ -18,7 +18,8 @@ use Rattle.fax_walk.specs.declared.options.Target.TheVariants.{Mmr, Pbm}
 use Rattle.fax_walk.specs.views.Walk.{start_place}
 use Rattle.fax_tool.specs.laws.Runs.{IsStartInRange}
 use Rattle.fax_tool.proofs.BeginLemmas.{StartsBy, inside_of, one_started}
-use Rattle.fax_tool.specs.Job.{AreOptions, Given, HasCursors, HasNoCursor, HasNoTarget, IsCommand, IsFault, IsJob}
+use Rattle.fax_tool.specs.Job.{AreOptions, Given, HasCursors, HasNoCursor, HasNoOption, HasNoTarget, IsCommand}
+use Rattle.fax_tool.specs.Job.{IsFault, IsJob, IsNoUse, target_of}
 use Rattle.fax_tool.specs.Job.{IsJobFault, IsJobOfCommand, IsPart, is_set}
 use Rattle.fax_tool.specs.Run.{origin_of}
 use Rattle.fax_walk.specs.Items.{start_cursor}
@@ -27,12 +28,12 @@ use Rattle.fax_tool.specs.Program.{file_name}
 use Rattle.fax_tool.specs.laws.Words.{AskTheSame, WordsHaveOneAnswer}
 use Rattle.fax_walk.specs.laws.Cursors.{TextsNameOne}
 use Rattle.fax_tool.specs.declared.args.Command.{Command}
-use Rattle.fax_tool.specs.declared.args.Command.TheVariants.{Check, Convert, List as Forms, Rows, Salvage}
+use Rattle.fax_tool.specs.declared.args.Command.TheVariants.{Check, Convert, List as Forms, Rows, Salvage, SalvageFile}
 use Rattle.fax_tool.specs.declared.args.Job.{Job}
 use Rattle.fax_tool.specs.declared.args.Selection.{Selection}
 use Rattle.fax_tool.specs.declared.args.WordsFault.{WordsFault}
 use Rattle.fax_tool.specs.declared.args.WordsFault.TheVariants.{NotACursor, Usage}
-use Rattle.std.specs.Prelude.{option_map}
+use Rattle.std.specs.Prelude.{option_and_then, option_map}
 use Rattle.std.specs.String.{string_bytes}
 
 -- words that ask for the version are those of no command
@@ -50,16 +51,27 @@ same_uses words a b xs ys remaining right =
     let rows = ap (λ (c : Text × List Row). c.1) pair in
     λ i. ((pair i).0, λ id. (sym (first_use id xs) ∙ ap (first_of id) rows ∙ first_use id ys) i)
 
+-- options are given by one that has a target
+options_or_none : (given : Given) (options : Options) → AreOptions given options → HasNoTarget given → ⊥
+options_or_none given options are none = grind arith
+
+-- and where they are given nothing says that there is none
+options_or_nothing : (given : Given) (options : Options) → AreOptions given options → HasNoOption given → ⊥
+options_or_nothing given options are none =
+    let target = are.target in
+    let no_target = ap (option_and_then target_of) none.0 in
+    let both : None ≡ Some options.target = sym no_target ∙ target in cc both
+
 command_or_usage : (name : Text) (given : Given) (command : Command) → IsCommand name given command
-    → name ≡ codes "convert" → HasNoTarget given → ⊥
-command_or_usage name given command is convert none = grind arith
+    → IsNoUse name given → ⊥
+command_or_usage name given command is none = grind (arith, options_or_none)
 
 job_or_usage : (words : List Text) (job : Job) → IsJobOfCommand words job → IsJobFault words Usage → ⊥
 job_or_usage words job is (inl none) = none is.name is.uses is.named
 job_or_usage words job is (inr refused) =
     let same = same_uses words refused.name is.name refused.uses is.uses refused.named is.named in
-    let command = subst (λ (c : Text × Given). (c.0 ≡ codes "convert") × HasNoTarget c.1) same refused.command in
-    command_or_usage is.name (text_in is.uses) job.command is.command command.0 command.1
+    let command = subst (λ (c : Text × Given). IsNoUse c.0 c.1) same refused.command in
+    command_or_usage is.name (text_in is.uses) job.command is.command command
 
 usage_or_no_cursor : (words : List Text) → IsJobFault words Usage → IsJobFault words NotACursor → ⊥
 usage_or_no_cursor words (inl none) no_cursor = none no_cursor.name no_cursor.uses no_cursor.named
@@ -144,6 +156,12 @@ one_command names name given (Convert options) (Convert other) in_range in_range
 one_command names name given (Check received) (Check other) in_range in_range' first second =
     ap (λ (flag : Bool). Check flag) (first.1 ∙ sym second.1)
 one_command names name given Salvage Salvage in_range in_range' first second = refl
+one_command names name given (SalvageFile options) (SalvageFile other) in_range in_range' first second =
+    ap (λ (o : Options). SalvageFile o) (one_options given options other first.1 second.1)
+one_command names name given Salvage (SalvageFile options) in_range in_range' first second =
+    absurd (options_or_nothing given options second.1 first.1)
+one_command names name given (SalvageFile options) Salvage in_range in_range' first second =
+    absurd (options_or_nothing given options first.1 second.1)
 one_command names name given command other in_range in_range' first second = grind arith
 
 same_of_command : TextsNameOne → (words : List Text) (job other : Job) → IsJobOfCommand words job

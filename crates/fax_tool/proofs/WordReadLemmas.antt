@@ -1,13 +1,12 @@
 -- Where clap takes the words, they are read, and the entries are as they say.
-use Rattle.std.proofs.Common.{arith, ◌≡◌, ◌∙◌, ◌⊎◌, ◌||◌, ap, ap₂, codes, inl, inr, lit<, refl, sym}
-use Rattle.std.proofs.Common.{subst, Bool, true, false, List, [], ◌∷◌, Option, Some, None, is_some, map}
-use Rattle.std.specs.Prelude.{find, not, option_and_then, option_map}
+use Rattle.std.proofs.Common.{arith, ◌≡◌, ◌∙◌, ◌⊎◌, ap, ap₂, codes, inl, inr, lit<, refl, sym}
+use Rattle.std.proofs.Common.{subst, true, false, List, [], ◌∷◌, Option, Some, None, is_some, map}
+use Rattle.std.specs.Prelude.{find, option_and_then, option_map}
 use Rattle.std.specs.List.{All, AllByRecursion, Contains, fold, list_all}
 use Rattle.std.proofs.lemmas.List.Elements.{All-contains, All-from_recursion, All-tail}
 use Rattle.std.proofs.Math.Bool.{and-false}
 use Rattle.std.specs.Str.{IsUtf8, bytes_eq}
 use Rattle.std.proofs.lemmas.Slice.Eq.{bytes_eq-Decides}
-use Rattle.clap.specs.Takes.{is_given}
 use Rattle.clap.specs.Kinds.{Kinds, or_else}
 use Rattle.clap.specs.Walk.{Row, Rule, Text, Walk, arg_by_id, arg_by_index, bundle_met, answers_to, first_of, idle}
 use Rattle.clap.specs.Walk.{nothing_held}
@@ -20,7 +19,7 @@ use Rattle.clap.proofs.WalkLemmas.{walk_stopped}
 use Rattle.clap.proofs.OnLiterals.{clap_on_literals}
 use Rattle.fax_tool.specs.code.CommandLine.{faxpages_app}
 use Rattle.fax_tool.specs.Grammar.{AreOfCommand, AreOfNoCommand, AreSpelled, IsSpelled, Item, Use, commands, file, flag}
-use Rattle.fax_tool.specs.Grammar.{name_of, number, text_in}
+use Rattle.fax_tool.specs.Grammar.{name_of, number, text_in, form_items}
 use Rattle.fax_tool.specs.code.Scan.{is_taken, takes}
 use Rattle.fax_tool.proofs.GrammarLemmas.{apart_scanned, number_scanned, scanned_apart}
 use Rattle.fax_tool.proofs.RuleLemmas.{items_at, rule_of, rules_of}
@@ -29,7 +28,7 @@ use Rattle.fax_tool.proofs.SpellLemmas.{IsKnown, letter_read, spelled}
 use Rattle.fax_tool.proofs.ShapeLemmas.{all_spelled}
 use Rattle.fax_tool.proofs.clap.Flat.{IsFlat, guard, read}
 use Rattle.fax_tool.proofs.clap.FlatLemmas.{Form, found as found_in, as_end, as_letter, as_long, as_place, form}
-use Rattle.fax_tool.proofs.ParsedRowLemmas.{ended, entered_from, filled_rows, flag_filled, given_filled, is_true, lacks}
+use Rattle.fax_tool.proofs.ParsedRowLemmas.{ended, entered_from, filled_rows, flag_filled, is_true}
 use Rattle.fax_tool.proofs.ParsedRowLemmas.{level, rows_entered, text_filled}
 
 -- each text is one that its item takes
@@ -135,17 +134,9 @@ abbrev pub IsReadAs : List Text → Text → List Row → Type 0
 IsReadAs words name entries = (uses : List Use) × (are : AreOfCommand words name uses) × Agrees entries uses
     × (entries ≡ filled_rows are.items uses)
 
--- what is required and lacks is the target of `convert`
-abbrev pub LacksTarget : Text → List Use → Type 0
-LacksTarget name uses = (name ≡ codes "convert") × (text_in uses (codes "o") ≡ None)
-
-abbrev pub IsUnread : List Text → Type 0
-IsUnread words = AreOfNoCommand words ⊎ ((name : Text) × (uses : List Use) × AreOfCommand words name uses
-    × LacksTarget name uses)
-
 -- clap takes the words and they are read, or neither
 abbrev Outcome : List Text → Type 0
-Outcome words = ((AreTaken words → ⊥) × IsUnread words)
+Outcome words = ((AreTaken words → ⊥) × AreOfNoCommand words)
     ⊎ (AreTaken words × (name : Text) × (entries : List Row) × (command_of words ≡ Some (name, entries))
     × IsReadAs words name entries)
 
@@ -157,7 +148,6 @@ pub record IsOwn (command : Text × List Item) : Type 0 where
   second : arg_by_index (rules_of command.1) 2 ≡ None
   has_file : Contains command.1 file
   each : AllByRecursion (IsKnown (rules_of command.1)) command.1
-  target : (uses : List Use) → lacks command.1 (filled_rows command.1 uses) ≡ true → LacksTarget command.0 uses
 
 flat_item : (c : List Rule) (item : Item) → arg_by_id c (name_of item) ≡ Some (rule_of item) → IsFlat c (rule_of item)
 flat_item c (flag own) id = inr (refl, refl, refl, refl)
@@ -168,39 +158,42 @@ flat_items : (c : List Rule) (items : List Item) → AllByRecursion (IsKnown c) 
 flat_items c [] known = tt
 flat_items c (item ∷ items) known = (flat_item c item known.0.0, flat_items c items known.1)
 
--- `convert` has to have a target
-lacks_target : (uses : List Use) → lacks (items_at 2) (filled_rows (items_at 2) uses) ≡ true
-    → text_in uses (codes "o") ≡ None
-unfolding clap_on_literals
-lacks_target uses lacking = go (text_in uses (codes "o")) (given_filled (codes "o") (items_at 2) uses refl)
-    (is_given (codes "o") (filled_rows (items_at 2) uses)) refl lacking
-  where
-    go : (o : Option Text) → is_given (codes "o") (filled_rows (items_at 2) uses) ≡ is_some o → (b : Bool)
-        → is_given (codes "o") (filled_rows (items_at 2) uses) ≡ b → (not b || false) ≡ true → o ≡ None
-    go o given b is lacking = grind arith
-
 -- a command, by what computes at its words
 own_of : (name : Text) (items : List Item) → subcommand_met (names_of program) idle name ≡ Some name
     → find (λ s. answers_to name (label_of s)) program.subs ≡ Some (leaf name items)
     → arg_by_index (rules_of items) 1 ≡ Some (rule_of file) → arg_by_index (rules_of items) 2 ≡ None
-    → Contains items file → AllByRecursion (IsKnown (rules_of items)) items
-    → ((uses : List Use) → lacks items (filled_rows items uses) ≡ true → LacksTarget name uses) → IsOwn (name, items)
-own_of name items met named first second has_file each target = record {
+    → Contains items file → AllByRecursion (IsKnown (rules_of items)) items → IsOwn (name, items)
+own_of name items met named first second has_file each = record {
   met = met;
   named = named;
   first = first;
   second = second;
   has_file = has_file;
   each = each;
-  target = target;
 }
+
+-- what may stand after a command that writes pages
+form_items_known : AllByRecursion (IsKnown (rules_of form_items)) form_items
+unfolding clap_on_literals
+form_items_known = (
+  (refl, (λ value. refl, letter_read form_items 111 (λ b bs. refl), refl), (refl, lit< tt)),
+  (
+    (refl, (λ value. refl, refl), lit< tt),
+    (
+      (refl, (λ value. refl, refl), lit< tt),
+      (
+        (refl, (λ value. refl, refl), lit< tt),
+        ((refl, refl, tt), ((refl, tt, tt), tt)),
+      ),
+    ),
+  ),
+)
 
 pub own_commands : All IsOwn commands
 unfolding clap_on_literals
 own_commands = All-from_recursion IsOwn commands (
   own_of (codes "list") (items_at 0) refl refl refl refl (2, lit< tt, refl)
-      ((refl, (λ value. refl, refl), tt), ((refl, (λ value. refl, refl), lit< tt), ((refl, tt, tt), tt)))
-      (λ uses lacking. cc),
+      ((refl, (λ value. refl, refl), tt), ((refl, (λ value. refl, refl), lit< tt), ((refl, tt, tt), tt))),
   (
     own_of (codes "rows") (items_at 1) refl refl refl refl (2, lit< tt, refl) (
       (refl, (λ value. refl, refl), tt),
@@ -208,31 +201,13 @@ own_commands = All-from_recursion IsOwn commands (
         (refl, (λ value. refl, refl), lit< tt),
         ((refl, tt, tt), ((refl, refl, tt), tt)),
       ),
-    )
-        (λ uses lacking. cc),
+    ),
     (
-      own_of (codes "convert") (items_at 2) refl refl refl refl (5, lit< tt, refl) (
-        (refl, (λ value. refl, letter_read (items_at 2) 111 (λ b bs. refl), refl), (refl, lit< tt)),
-        (
-          (refl, (λ value. refl, refl), lit< tt),
-          (
-            (refl, (λ value. refl, refl), lit< tt),
-            (
-              (refl, (λ value. refl, refl), lit< tt),
-              ((refl, refl, tt), ((refl, tt, tt), tt)),
-            ),
-          ),
-        ),
-      )
-          (λ uses lacking. (refl, lacks_target uses lacking)),
+      own_of (codes "convert") form_items refl refl refl refl (5, lit< tt, refl) form_items_known,
       (
         own_of (codes "check") (items_at 3) refl refl refl refl (0, lit< tt, refl)
-            ((refl, tt, tt), ((refl, refl, tt), tt)) (λ uses lacking. cc),
-        (
-          own_of (codes "salvage") (items_at 4) refl refl refl refl (0, lit< tt, refl) ((refl, tt, tt), tt)
-              (λ uses lacking. cc),
-          tt,
-        ),
+            ((refl, tt, tt), ((refl, refl, tt), tt)),
+        (own_of (codes "salvage") form_items refl refl refl refl (5, lit< tt, refl) form_items_known, tt),
       ),
     ),
   ),
@@ -361,26 +336,15 @@ outcome name items among own rest utf8 =
         → Outcome (own ∷ name ∷ rest)
     go None none at = inl (
       λ taken. guard_none _ entries at (sym fault_is ∙ taken),
-      inl (unread_is_no_command (own ∷ name ∷ rest)
-          (rw (All-contains IsNamed commands (name, items) all_named among own rest, none))),
+      unread_is_no_command (own ∷ name ∷ rest)
+          (rw (All-contains IsNamed commands (name, items) all_named among own rest, none)),
     )
     go (Some rows) reads at =
         let (uses, are, same, items_are) = of_command (name, items) among own rest rows utf8 reads in
-        last uses are items_are (lacks items (filled_rows items uses)) refl (at ∙ ap (ended name items) same)
-      where
-        last : (uses : List Use) (are : AreOfCommand (own ∷ name ∷ rest) name uses) → are.items ≡ items → (b : Bool)
-            → lacks items (filled_rows items uses) ≡ b
-            → guard (level_fault (leaf name items) [] nothing_held rest false []) (Some entries)
-            ≡ ended name items (map row_of uses)
-            → Outcome (own ∷ name ∷ rest)
-        last uses are items_are true lacking at =
-            let untaken = guard_none _ entries (at ∙ rw lacking refl) in
-            inl (λ taken. untaken (sym fault_is ∙ taken), inr (name, uses, are, is.target uses lacking))
-        last uses are items_are false lacking at =
-            let (none, same) = guard_some _ entries (filled_rows items uses) (at ∙ rw lacking refl) in
-            let named = command_named own name rest (leaf name items) is.met is.named in
-            let agree = All-contains AreAgreeing commands (name, items) all_agree among uses in
-            inr (fault_is ∙ none, name, entries, named, (uses, are, rw same agree, rw items_are same))
+        let (none, entries_are) = guard_some _ entries (filled_rows items uses) (at ∙ ap (ended name items) same) in
+        let named = command_named own name rest (leaf name items) is.met is.named in
+        let agree = All-contains AreAgreeing commands (name, items) all_agree among uses in
+        inr (fault_is ∙ none, name, entries, named, (uses, are, rw entries_are agree, rw items_are entries_are))
 
 -- no command is met by a word that is no command's name
 unnamed_met : (word : Text) (all : List (Text × List Item)) → find (λ command. bytes_eq command.0 word) all ≡ None
@@ -390,12 +354,12 @@ unnamed_met word (command ∷ all) none = grind (arith, unnamed_met word all)
 
 read_or_not : (words : List Text) → All IsUtf8 words → Outcome words
 unfolding clap_on_literals
-read_or_not [] utf8 = inl (λ taken. cc, inl (unread_is_no_command [] refl))
-read_or_not (own ∷ []) utf8 = inl (λ taken. cc, inl (unread_is_no_command (own ∷ []) refl))
+read_or_not [] utf8 = inl (λ taken. cc, unread_is_no_command [] refl)
+read_or_not (own ∷ []) utf8 = inl (λ taken. cc, unread_is_no_command (own ∷ []) refl)
 read_or_not (own ∷ word ∷ rest) utf8 = elim (named_command word) [
   | inl none ↦
       let no_command = unread_is_no_command (own ∷ word ∷ rest) (rw none refl) in
-      inl (unnamed word rest (form word) (unnamed_met word commands none), inl no_command)
+      inl (unnamed word rest (form word) (unnamed_met word commands none), no_command)
   | inr (items, among) ↦ outcome word items among own rest (All-tail IsUtf8 word rest
       (All-tail IsUtf8 own (word ∷ rest) utf8))
 ]
@@ -410,7 +374,7 @@ taken_is_read words name entries utf8 taken named = elim (read_or_not words utf8
       subst (λ (c : Text × List Row). IsReadAs words c.0 c.1) pair reads
 ]
 
--- and those that it does not take are not read, or lack what is to be written
-pub untaken_is_unread : (words : List Text) → All IsUtf8 words → (AreTaken words → ⊥) → IsUnread words
+-- and those that it does not take are those of no command
+pub untaken_is_unread : (words : List Text) → All IsUtf8 words → (AreTaken words → ⊥) → AreOfNoCommand words
 untaken_is_unread words utf8 untaken = elim (read_or_not words utf8)
     [ inl (_, unread) ↦ unread | inr of ↦ absurd (untaken of.0) ]

@@ -45,16 +45,17 @@ name_of file = codes "FILE"
 abbrev pub part : List Item
 part = text (codes "cursor") ∷ number (codes "max") most_lines ∷ file ∷ []
 
--- each command's name, and what may stand after it, in any order: k is no more than the most rows
--- of a strip; 111 is `o`
+-- what may stand after `convert`, and after `salvage`: k is no more than the most rows of a strip;
+-- 111 is `o`
+abbrev pub form_items : List Item
+form_items = letter 111 ∷ number (codes "order") 2 ∷ number (codes "k") most_rows
+    ∷ number (codes "strip") most_rows ∷ flag (codes "align") ∷ file ∷ []
+
+-- each command's name, and what may stand after it, in any order
 abbrev pub commands : List (Text × List Item)
 commands = (codes "list", part) ∷ (codes "rows", part ++ flag (codes "long") ∷ [])
-    ∷ (
-      codes "convert",
-      letter 111 ∷ number (codes "order") 2 ∷ number (codes "k") most_rows
-          ∷ number (codes "strip") most_rows ∷ flag (codes "align") ∷ file ∷ [],
-    )
-    ∷ (codes "check", file ∷ flag (codes "received") ∷ []) ∷ (codes "salvage", file ∷ []) ∷ []
+    ∷ (codes "convert", form_items) ∷ (codes "check", file ∷ flag (codes "received") ∷ [])
+    ∷ (codes "salvage", form_items) ∷ []
 
 -- one use of an item, with its text: a flag's is `true`
 pub record Use : Type 0 where

@@ -2,7 +2,7 @@
 -- A definition without a citation is this project's profile.
 use Rattle.std.specs.Prelude.{◌≡◌, ◌≢◌, ◌⊎◌, ◌==◌, ℕ, Bool, true, false, List, Option}
 use Rattle.std.specs.Prelude.{Some, None, IfSome, codes, if◌then◌else◌, unwrap_or, option_and_then}
-use Rattle.std.specs.Prelude.{option_map, MatchOption}
+use Rattle.std.specs.Prelude.{option_map, is_some, MatchOption, ◌||◌}
 use Rattle.std.specs.Option.{option_map_or}
 use Rattle.std.specs.Str.{bytes_eq}
 use Rattle.std.specs.Str.Parse.{digits_value, without_leading_plus}
@@ -20,7 +20,7 @@ use Rattle.fax_walk.specs.Pages.{long_cursor_text}
 use Rattle.fax_tool.specs.Grammar.{AreOfCommand, AreOfNoCommand, AskForVersion, Text, Use, text_in}
 use Rattle.fax_tool.specs.declared.args.Command.{Command}
 use Rattle.fax_tool.specs.declared.args.Command.TheVariants.{Check, Convert, List as Forms, Rows}
-use Rattle.fax_tool.specs.declared.args.Command.TheVariants.{Salvage, Version}
+use Rattle.fax_tool.specs.declared.args.Command.TheVariants.{Salvage, SalvageFile, Version}
 use Rattle.fax_tool.specs.declared.args.Job.{Job}
 use Rattle.fax_tool.specs.declared.args.Selection.{Selection}
 use Rattle.fax_tool.specs.declared.args.WordsFault.{WordsFault}
@@ -64,13 +64,22 @@ pub record IsPart (given : Given) (long : Bool) (part : Selection) : Type 0 wher
   pub max : part.max ≡ number_in (codes "max") given
   pub long_is : part.long ≡ long
 
--- what is given after `convert` gives these options
+-- what is given after `convert` or `salvage` gives these options
 pub record AreOptions (given : Given) (options : Options) : Type 0 where
   pub target : target_in given ≡ Some options.target
   pub order : options.order ≡ order_by (number_in (codes "order") given)
   pub k : options.k ≡ unwrap_or (number_in (codes "k") given) 4
   pub strip : options.strip ≡ number_in (codes "strip") given
   pub aligned : options.aligned ≡ is_set (codes "align") given
+
+-- something is given of how rows are coded
+abbrev pub says_how : Given → Bool
+says_how given = is_some (number_in (codes "order") given) || (is_some (number_in (codes "k") given)
+    || (is_some (number_in (codes "strip") given) || is_set (codes "align") given))
+
+-- nothing is given of how pages are written
+abbrev pub HasNoOption : Given → Type 0
+HasNoOption given = (given (codes "o") ≡ None) × (says_how given ≡ false)
 
 -- a command's name and what is given after it give this command: none gives the version
 abbrev pub IsCommand : Text → Given → Command → Type 0
@@ -81,7 +90,8 @@ IsCommand name given (Rows part) =
 IsCommand name given (Convert options) = (name ≡ codes "convert") × AreOptions given options
 IsCommand name given (Check received) =
     (name ≡ codes "check") × (received ≡ is_set (codes "received") given)
-IsCommand name given Salvage = name ≡ codes "salvage"
+IsCommand name given Salvage = (name ≡ codes "salvage") × HasNoOption given
+IsCommand name given (SalvageFile options) = (name ≡ codes "salvage") × AreOptions given options
 IsCommand name given Version = ⊥
 
 -- a command's cursor is one, as not each `Cursor` is, and so is its `LongCursorValue`, which has a
@@ -105,7 +115,7 @@ abbrev pub IsJob : List Text → Job → Type 0
 IsJob words job = IsJobOfCommand words job
     ⊎ (AskForVersion words × (job.command ≡ Version) × (job.file ≡ None))
 
--- what is given after `convert` names no target, or one without EOLs where these are to be aligned
+-- what is given names no target, or one without EOLs where these are to be aligned
 abbrev pub HasNoTarget : Given → Type 0
 HasNoTarget given = (target_in given ≡ None)
     ⊎ ((is_set (codes "align") given ≡ true)
@@ -126,11 +136,17 @@ pub record AreRefused (words : List Text) (why : Text → Given → Type 0) : Ty
   pub named : AreOfCommand words name uses
   pub command : why name (text_in uses)
 
+-- a command's name and what is given after it are no use of the command: `convert` has no target;
+-- or `salvage` has none, but something is given of how pages are written
+abbrev pub IsNoUse : Text → Given → Type 0
+IsNoUse name given = ((name ≡ codes "convert") × HasNoTarget given)
+    ⊎ ((name ≡ codes "salvage") × HasNoTarget given × (HasNoOption given → ⊥))
+
 -- the words give no command, but this fault: Usage also where they are those of no command, and
 -- so before any other; of Memory nothing can be said but that a growth was refused
 abbrev pub IsJobFault : List Text → WordsFault → Type 0
 IsJobFault words Usage = AreOfNoCommand words
-    ⊎ AreRefused words (λ name given. (name ≡ codes "convert") × HasNoTarget given)
+    ⊎ AreRefused words IsNoUse
 IsJobFault words NotACursor = AreRefused words HasNoCursor
 IsJobFault words Memory = Unit {0}
 

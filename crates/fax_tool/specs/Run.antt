@@ -14,10 +14,10 @@ use Rattle.fax_tool.specs.declared.refusal.Refusal.{Refusal}
 use Rattle.fax_tool.specs.declared.refusal.Refusal.TheVariants.{Memory, Read, Write}
 use Rattle.fax_tool.specs.declared.args.Command.{Command}
 use Rattle.fax_tool.specs.declared.args.Command.TheVariants.{List as Forms, Rows, Convert, Check}
-use Rattle.fax_tool.specs.declared.args.Command.TheVariants.{Salvage, Version}
+use Rattle.fax_tool.specs.declared.args.Command.TheVariants.{Salvage, SalvageFile, Version}
 use Rattle.fax_tool.specs.declared.args.Selection.{Selection}
 use Rattle.fax_tool.specs.ReportText.{IsCheckText, IsConversionText}
-use Rattle.fax_tool.specs.SalvageText.{IsSalvageFront, IsSalvageText}
+use Rattle.fax_tool.specs.SalvageText.{IsSalvageFileText, IsSalvageFront, IsSalvageText}
 use Rattle.fax_tool.specs.Words.{version_text}
 
 -- how many calls on a stream were interrupted, how many failed, and how many files were not opened
@@ -109,6 +109,7 @@ IsTextOf (Rows part) file =
 IsTextOf (Convert options) file = IsConversionText options file
 IsTextOf (Check received) file = IsCheckText received file
 IsTextOf Salvage file = IsSalvageText file
+IsTextOf (SalvageFile options) file = IsSalvageFileText options file
 IsTextOf Version file =
     λ printed. printed ≡ record { output = version_text; error = []; status = 0 }
 

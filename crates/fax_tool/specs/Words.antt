@@ -17,7 +17,9 @@ usage_text =
 
 -- the usage of `salvage`
 abbrev pub salvage_usage_text : List ℕ
-salvage_usage_text = codes "usage: faxpages salvage [FILE]\n"
+salvage_usage_text =
+    codes "usage: faxpages salvage [-o pbm|mh|mr|mmr [--order 1|2] [--k K] [--strip ROWS]"
+    ++ codes " [--align]] [FILE]\n"
 
 -- words, the program's name first, name `salvage`
 abbrev pub names_salvage : List Text → Bool
@@ -30,7 +32,7 @@ usage_for words = if names_salvage words then salvage_usage_text else usage_text
 
 -- the version's line
 abbrev pub version_text : List ℕ
-version_text = codes "faxpages 1.14.0\n"
+version_text = codes "faxpages 1.15.0\n"
 
 -- the text for the error stream, for these words
 abbrev pub words_text : List Text → WordsFault → List ℕ

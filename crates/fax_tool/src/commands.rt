@@ -4,5 +4,6 @@ pub mod check;
 pub mod convert;
 pub mod print;
 pub mod printed_lines;
+pub mod salvage_file;
 pub mod salvage_lines;
 pub mod version;

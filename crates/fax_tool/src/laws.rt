@@ -27,6 +27,7 @@ pub fn texts_are_one()
     fax_walk::laws::form_tails_are_one();
     fax_walk::laws::answers_are_one();
     fax_walk::laws::files_are_salvaged_in_one_way();
+    fax_walk::laws::salvaged_files_are_one();
     fax_walk::laws::tails_go_on();
 }
 

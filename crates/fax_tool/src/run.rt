@@ -9,6 +9,7 @@ use crate::args::{Command, Job};
 use crate::commands::check::write_report;
 use crate::commands::convert::write_conversion;
 use crate::commands::print::{list, rows};
+use crate::commands::salvage_file::write_salvaged;
 use crate::commands::salvage_lines::salvage;
 use crate::commands::version::version;
 use crate::refusal::Refusal;
@@ -78,6 +79,7 @@ fn carry_out<R: Source, W: Sink>(
         Command::Convert(options) => write_conversion(alloc, *options, input, out),
         Command::Check { received } => write_report(alloc, *received, input, out),
         Command::Salvage => salvage(alloc, input, out),
+        Command::SalvageFile(options) => write_salvaged(alloc, options, input, out),
         Command::Version => {
             version(out)?;
             Ok(None)

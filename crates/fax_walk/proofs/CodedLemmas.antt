@@ -84,10 +84,10 @@ module _ (law : CodedStripsAreRead) (options : Options) (coding : Coding)
     form_limits : IsPageForm form
     form_limits = grind (arith, common_steps)
 
-    page_writable : IsWritable (written_page options coding source)
+    pub page_writable : IsWritable (written_page options coding source)
     page_writable = grind (arith, common_steps, length-map-range_with_len)
 
-    page_holds : HoldsPageRows (written_page options coding source) source.image.rows
+    pub page_holds : HoldsPageRows (written_page options coding source) source.image.rows
     page_holds =
         let rows = source.image.rows in
         let none : 0 ≡ 0 * form.rows_per_strip = omega arith in (
@@ -99,7 +99,7 @@ module _ (law : CodedStripsAreRead) (options : Options) (coding : Coding)
               (whole_of form form_limits).enough),
         )
 
-  all_writable : (pages : List SourcePage) → All IsWritableSource pages
+  pub all_writable : (pages : List SourcePage) → All IsWritableSource pages
       → AreWritable (written_pages options coding pages)
   all_writable [] are = tt
   all_writable (source ∷ pages) are = (

@@ -2,19 +2,23 @@
 use Rattle.std.proofs.Common.{◌≡◌, ℕ, zero, suc, ◌+◌, ◌*◌, ◌<◌, ◌≤◌, min, List, [], ◌∷◌, ◌++◌, length, take, drop}
 use Rattle.std.proofs.Common.{Option, Some}
 use Rattle.std.specs.List.{range_with_len}
-use Rattle.std.proofs.Common.{map, None, Vec, refl, sym, ap, ◌∙◌, arith, length-drop}
+use Rattle.std.proofs.Common.{map, None, Vec, refl, sym, ap, ◌∙◌, subst, arith, length-drop, length-append}
+use Rattle.std.proofs.Common.{replicate, append_assoc}
 use Rattle.std.specs.declared.alloc.Global.{Global}
 use Rattle.std.proofs.lemmas.List.FromFn.{map-range_with_len_more}
 use Rattle.std.proofs.lemmas.List.{take-append-le, drop-append-le, drop_all, take_all, length_push}
+use Rattle.std.proofs.lemmas.List.{length-replicate, replicate-append-replicate}
 use Rattle.fax_bits.specs.declared.Colour.{Colour}
+use Rattle.fax_bits.specs.declared.Colour.TheVariants.{White}
+use Rattle.fax_page.specs.Lines.{white_row}
 use Rattle.fax_page.specs.Strip.{coded_strip}
-use Rattle.fax_page.specs.views.Writer.{WriterState, PutsRow, FinishesAs, writer_beginning}
+use Rattle.fax_page.specs.views.Writer.{WriterState, PutsRow, PutsRows, FinishesAs, writer_beginning}
 use Rattle.fax_page.specs.laws.Writer.{HasPut, WritesRowByRow}
 use Rattle.fax_files.specs.declared.PageForm.{PageForm}
 use Rattle.fax_files.specs.Page.{strip_form}
 use Rattle.fax_files.specs.views.Writing.{contents}
 use Rattle.fax_walk.specs.declared.open_strips.StripsWriter.{StripsWriter}
-use Rattle.fax_walk.specs.code.StripsWriter.{coded_of, AreInStrip, HasPutRows}
+use Rattle.fax_walk.specs.code.StripsWriter.{coded_of, AreInStrip, HasPutRows, TakesRow, TakesWhiteRows, PutsWhiteRows}
 
 -- rows after n strips do not change them
 strips_more : (form : PageForm) (k n : ℕ) (rows more : List (List Colour)) → n * form.rows_per_strip ≤ length rows
@@ -75,24 +79,44 @@ module _ (writes : WritesRowByRow) (form : PageForm) (k : ℕ) (rows : List (Lis
       → writer ≡ writer_beginning (strip_form page.form n) page.k → IsReady writer
   ready_new writer none is = grind (arith, drop_all)
 
-  module _ (row : List Colour) (old new : WriterState) (ready : IsReady old) (puts : PutsRow old row new) where
+  -- one row fits into its strip
+  pub one_fits : length rows + 1 ≤ min ((n + 1) * in_strip) form.rows
+  one_fits = omega (arith, places)
+
+  pub row_goes_on : (row : List Colour) (old new : WriterState) → IsReady old → PutsRow old row new
+      → HasPut (strip_form form n) k (drop (n * in_strip) rows ++ row ∷ []) new
+  row_goes_on row old new ready puts =
+      writes.goes_on (strip_form form n) k (drop (n * in_strip) rows) row old new ready puts
+
+  pub white_goes_on : (m : ℕ) (old new : WriterState) → IsReady old
+      → PutsRows old (replicate m (white_row old.form.width)) new
+      → HasPut (strip_form form n) k (drop (n * in_strip) rows ++ replicate m (white_row form.width)) new
+  white_goes_on m old new ready puts =
+      writes.goes_on_by_rows (strip_form form n) k (drop (n * in_strip) rows) (replicate m (white_row form.width)) old
+      new ready
+      (subst (λ w. PutsRows old (replicate m (white_row w)) new) (ap (λ (w : WriterState). w.form.width) ready) puts)
+
+  -- rows that are put to the strip that is open, one or more, as far as it goes
+  module _ (added : List (List Colour)) (m : ℕ) (new : WriterState) (m_is : length added ≡ m) (some : 0 < m)
+      (fits : length rows + m ≤ min ((n + 1) * in_strip) form.rows)
+      (goes_on : HasPut (strip_form form n) k (drop (n * in_strip) rows ++ added) new) where
     abbrev more : List (List Colour)
-    more = rows ++ row ∷ []
+    more = rows ++ added
 
-    count : length more ≡ length rows + 1
-    count = length_push rows row
+    count : length more ≡ length rows + m
+    count = length-append rows added ∙ ap (λ i. length rows + i) m_is
 
-    rest_is : drop (n * in_strip) more ≡ drop (n * in_strip) rows ++ row ∷ []
-    rest_is = drop-append-le (n * in_strip) rows (row ∷ []) places.0
+    rest_is : drop (n * in_strip) more ≡ drop (n * in_strip) rows ++ added
+    rest_is = drop-append-le (n * in_strip) rows added places.0
 
     has_put : HasPut (strip_form form n) k (drop (n * in_strip) more) new
-    has_put = rw rest_is (writes.goes_on (strip_form form n) k (drop (n * in_strip) rows) row old new ready puts)
+    has_put = rw rest_is goes_on
 
     same_strips : map (coded_of form k rows) (range_with_len 0 n) ≡ map (coded_of form k more) (range_with_len 0 n)
-    same_strips = sym (strips_more form k n rows (row ∷ []) places.0)
+    same_strips = sym (strips_more form k n rows added places.0)
 
-    pub kept : (length rows + 1 ≡ min ((n + 1) * in_strip) form.rows → ⊥)
-        → HasPutRows form k more (record page { writer = Some new; rows = page.rows + 1 })
+    pub kept : (length rows + m ≡ min ((n + 1) * in_strip) form.rows → ⊥)
+        → HasPutRows form k more (record page { writer = Some new; rows = page.rows + m })
     kept not_whole = record {
       form_is = put.form_is;
       k_is = put.k_is;
@@ -114,8 +138,8 @@ module _ (writes : WritesRowByRow) (form : PageForm) (k : ℕ) (rows : List (Lis
     }
 
     pub whole : (done : Vec (Vec ℕ Global) Global) (bytes : Vec ℕ Global) → done.items ≡ page.done.items ++ bytes ∷ []
-        → length rows + 1 ≡ min ((n + 1) * in_strip) form.rows → FinishesAs new bytes.items
-        → HasPutRows form k more (record page { done = done; writer = None; rows = page.rows + 1 })
+        → length rows + m ≡ min ((n + 1) * in_strip) form.rows → FinishesAs new bytes.items
+        → HasPutRows form k more (record page { done = done; writer = None; rows = page.rows + m })
     whole done bytes done_is all ends =
         let strips_are : length done.items ≡ n + 1 = ap length done_is ∙ length_push page.done.items bytes in
         let all_rows : take in_strip (drop (n * in_strip) more) ≡ drop (n * in_strip) more =
@@ -142,3 +166,43 @@ module _ (writes : WritesRowByRow) (form : PageForm) (k : ℕ) (rows : List (Lis
           ) refl;
           in_strip = rw strips_are (omega (arith, all, count));
         }
+
+pub more_white : (old middle new : StripsWriter) (a b m : ℕ) → PutsWhiteRows old a middle → PutsWhiteRows middle b new
+    → a + b ≡ m
+    → PutsWhiteRows old m new
+more_white old middle new a b m first next all form k rows put within =
+    let white = white_row form.width in
+    let some = rows ++ replicate a white in
+    let count : length some ≡ length rows + a =
+    length-append rows (replicate a white) ∙ ap (λ i. length rows + i) (length-replicate a white) in
+    let rows_are : some ++ replicate b white ≡ rows ++ replicate m white =
+    append_assoc rows (replicate a white) (replicate b white)
+    ∙ ap (λ (l : List (List Colour)). rows ++ l) (replicate-append-replicate a b white)
+    ∙ ap (λ i. rows ++ replicate i white) all in
+    subst (λ l. HasPutRows form k l new) rows_are
+    (next form k some (first form k rows put (omega (arith, all, within))) (omega (arith, count, all, within)))
+
+-- the next row is expected where white rows are, whatever rows were put
+pub next_upcoming : (page : StripsWriter) (m : ℕ) → TakesWhiteRows page m → 0 < m
+    → (form : PageForm) (k : ℕ) (rows : List (List Colour)) → HasPutRows form k rows page
+    → length rows < form.rows
+next_upcoming page m takes some form k rows put =
+    omega (
+      arith,
+      some,
+      takes.upcoming,
+      takes.put.count,
+      put.count,
+      ap (λ (f : PageForm). f.rows) (sym takes.put.form_is ∙ put.form_is),
+    )
+
+pub takes_white_row : (page : StripsWriter) (m : ℕ) (takes : TakesWhiteRows page m) → 0 < m
+    → TakesRow page (white_row takes.form.width)
+takes_white_row page m takes some = record {
+  form = takes.form;
+  k = takes.k;
+  rows = takes.rows;
+  put = takes.put;
+  upcoming = omega (arith, takes.upcoming);
+  width = length-replicate takes.form.width White;
+}

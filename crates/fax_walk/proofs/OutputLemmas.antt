@@ -15,8 +15,10 @@ use Rattle.fax_files.specs.declared.PageForm.{PageForm}
 use Rattle.fax_files.specs.Pbm.{Image, pbm_of}
 use Rattle.fax_files.specs.views.Pbm.{head_bytes}
 use Rattle.fax_files.specs.laws.Pbm.{AreOfWidth}
+use Rattle.fax_files.specs.declared.bad_rows.BadRows.{BadRows}
 use Rattle.fax_files.specs.Layout.{Written, WrittenPage, with_page, with_pages}
 use Rattle.fax_files.specs.views.Writing.{empty_file, Writing, with_one_more, length_with, contents}
+use Rattle.fax_files.specs.views.Writing.{given_page}
 use Rattle.fax_files.specs.Directory.{max_file}
 use Rattle.fax_walk.specs.declared.options.Options.{Options}
 use Rattle.fax_walk.specs.declared.options.Target.{Target}
@@ -43,7 +45,7 @@ widths_more width [] row are is = (is, tt)
 widths_more width (first ∷ rows) row are is = (are.0, widths_more width rows row are.1 is)
 
 -- how many bytes rows of one width take
-rows_length : PackingUndoesUnpacking → (width : ℕ) (rows : List (List Colour)) → AreOfWidth width rows
+pub rows_length : PackingUndoesUnpacking → (width : ℕ) (rows : List (List Colour)) → AreOfWidth width rows
     → length (flat_map packed_row rows) ≡ length rows * packed_len width
 rows_length packs width [] are = omega arith
 rows_length packs width (row ∷ rows) are =
@@ -75,8 +77,8 @@ module _ (packs : PackingUndoesUnpacking) (at : Progress) (sheet : PageSize) (ta
   pub image_too_large : max_file < length done + length (head_bytes sheet.width sheet.rows) + sheet.rows * packed_len
       sheet.width
       → BecomesTooLarge (no_rows at sheet)
-  image_too_large large = λ rows count widths more.
-      let page = page_of sheet rows in
+  image_too_large large = λ rows bad count widths more.
+      let page = page_of sheet rows bad in
       let head = ap (λ (n : ℕ). length (head_bytes sheet.width n)) count in
       let raster : length (flat_map packed_row rows) ≡ sheet.rows * packed_len sheet.width =
       rows_length packs sheet.width rows widths ∙ ap (λ (n : ℕ). n * packed_len sheet.width) count in
@@ -131,7 +133,7 @@ unfolding with_pages
 pages_append old total k [] more = let here : k ≡ k + 0 = omega arith in
     ap (λ (n : ℕ). with_pages old total n more) here
 pages_append old total k (page ∷ pages) more =
-    let next = with_page old total k page.form page.strips in
+    let next = with_page old total k page in
     let there : k + 1 + length pages ≡ k + suc (length pages) = omega arith in
     pages_append next total (k + 1) pages more
     ∙ ap (λ (n : ℕ). with_pages (with_pages next total (k + 1) pages) total n more) there
@@ -139,15 +141,15 @@ pages_append old total k (page ∷ pages) more =
 -- a page more, whatever stands before it
 pages_next : (old : Written) (total : ℕ) (pages : List WrittenPage) (page : WrittenPage)
     → with_pages old total 0 (pages ++ page ∷ []) ≡ with_page (with_pages old total 0 pages) total (length pages)
-    page.form page.strips
+    page
 unfolding with_pages
 pages_next old total pages page = grind (arith, common_steps, pages_append)
 
 -- a file does not get shorter with a page
-page_grows : (old : Written) (total k : ℕ) (form : PageForm) (strips : List (List ℕ))
-    → length old.bytes ≤ length (with_page old total k form strips).bytes
+page_grows : (old : Written) (total k : ℕ) (page : WrittenPage)
+    → length old.bytes ≤ length (with_page old total k page).bytes
 unfolding with_page
-page_grows old total k form strips = grind (arith, length-append, length-take, length-drop)
+page_grows old total k page = grind (arith, length-append, length-take, length-drop)
 
 pages_grow : (old : Written) (total k : ℕ) (pages : List WrittenPage)
     → length old.bytes ≤ length (with_pages old total k pages).bytes
@@ -158,8 +160,7 @@ pages_grow old total k (page ∷ pages) =
       arith,
       common_steps,
       page_grows,
-      pages_grow (with_page old total k page.form page.strips) total (k + 1)
-          pages,
+      pages_grow (with_page old total k page) total (k + 1) pages,
     )
 
 -- a TIFF file of no page yet
@@ -183,14 +184,14 @@ pub all_strips : (form : PageForm) (k : ℕ) (rows : List (List Colour)) (page :
 all_strips form k rows page put all = grind (arith, reached_by)
 
 -- a page of a TIFF file whose rows were all put
-module _ (part : Part) (coding : Coding) (writer : Writing) (page : StripsWriter)
+module _ (part : Part) (bad : Option BadRows) (coding : Coding) (writer : Writing) (page : StripsWriter)
     (has : HasRowsOnPage coding writer (Some page) part)
     (all : length part.rows ≡ part.sheet.rows) where
   abbrev options : Options
   options = part.at.options
 
   abbrev source : SourcePage
-  source = page_of part.sheet part.rows
+  source = page_of part.sheet part.rows bad
 
   abbrev pages : List SourcePage
   pages = part.at.pages ++ source ∷ []
@@ -204,12 +205,18 @@ module _ (part : Part) (coding : Coding) (writer : Writing) (page : StripsWriter
   strips_are : contents page.done.items ≡ (written source).strips
   strips_are = rw (has.2.done, all_strips as_put options.k part.rows page has.2 all, ← all) refl
 
-  with_source : with_page writer.written writer.total writer.added page.form (contents page.done.items)
-      ≡ with_pages empty_file most_pages 0 (map written pages)
-  with_source = grind (arith, length-map, strips_are, map-append, pages_next)
+  abbrev given : WrittenPage
+  given = given_page page.form page.done.items bad
 
-  pub page_ended : (new : Writing) → new ≡ with_one_more writer page.form page.done.items
-      → length_with writer page.form page.done.items ≤ max_file → HasPages coding new (after part)
+  given_is : given ≡ written source
+  given_is = rw (has.2.form_is, strips_are, all) refl
+
+  with_source : with_page writer.written writer.total writer.added given
+      ≡ with_pages empty_file most_pages 0 (map written pages)
+  with_source = grind (arith, length-map, given_is, map-append, pages_next)
+
+  pub page_ended : (new : Writing) → new ≡ with_one_more writer given → length_with writer given ≤ max_file
+      → HasPages coding new (after part bad)
   page_ended new new_is fits =
       let total_is : writer.total ≡ most_pages = ap (λ (w : Writing). w.total) has.0.added in
       let count : writer.added + 1 ≡ length (map written pages) = omega (
@@ -226,8 +233,7 @@ module _ (part : Part) (coding : Coding) (writer : Writing) (page : StripsWriter
         fits = rw new_is fits;
       }
 
-  pub page_too_large : TotalsAreTold → max_file < length_with writer page.form page.done.items
-      → StaysTooLarge (after part)
+  pub page_too_large : TotalsAreTold → max_file < length_with writer given → StaysTooLarge (after part bad)
   page_too_large totals large = λ more.
       let all = map written (pages ++ more) in
       let alike = totals.alike (length all) most_pages all in

@@ -20,7 +20,7 @@ use Rattle.fax_walk.proofs.StripPlaceLemmas.{shown_length, strip_count}
 use Rattle.fax_walk.proofs.RowLawLemmas.{LinesAreRead}
 use Rattle.fax_walk.proofs.StripRowLemmas.{AreRead, strip_rows}
 
-shown_both : (form : PageForm) (rows more : List (List Colour))
+pub shown_both : (form : PageForm) (rows more : List (List Colour))
     → shown form (rows ++ more) ≡ shown form rows ++ shown form more
 shown_both form rows more = by_test form.exchanged
   where

@@ -2,8 +2,11 @@
 use Rattle.std.proofs.lemmas.Grind.{common_steps}
 use Rattle.std.proofs.Common.{◌≡◌, ℕ, zero, suc, ◌+◌, ◌-◌, ◌^◌, ◌<◌, ◌≤◌, List, [], ◌∷◌, ◌++◌, length, drop, set}
 use Rattle.std.proofs.Common.{replicate, get_or, refl, ap, arith, append_assoc, append-nil, length-append}
-use Rattle.std.proofs.Common.{length-drop}
-use Rattle.std.specs.Prelude.{decimal, Result, OnOk, OnErr, ⊤}
+use Rattle.std.proofs.Common.{length-drop, ◌*◌, ◌∙◌}
+use Rattle.std.specs.Prelude.{decimal, Result, OnOk, OnErr, ⊤, flat_map}
+use Rattle.fax_rows.specs.Coded.{packed_len, packed_row}
+use Rattle.fax_rows.specs.laws.Rows.{WhiteRowsAreWritten}
+use Rattle.fax_page.specs.Lines.{white_row}
 use Rattle.std.proofs.lemmas.List.{replicate-append-replicate, drop-append-le, drop_all}
 use Rattle.fax_walk.specs.declared.parts.ZeroRun.{ZeroRun}
 use Rattle.std.proofs.lemmas.Fmt.{length-decimal-le}
@@ -184,3 +187,15 @@ head_short width rows narrow few =
     let down : length (decimal rows) ≤ 10 =
     length-decimal-le 10 rows (omega arith) (omega (arith, few)) (omega (arith, few)) in
     grind (arith, common_steps, across, down)
+
+-- white rows of an image are zeros
+pub white_zeros : WhiteRowsAreWritten → (width count n : ℕ) → n ≡ count * packed_len width
+    → flat_map packed_row (replicate count (white_row width)) ≡ replicate n 0
+white_zeros written width zero n is = let none : 0 ≡ n = omega (arith, is) in ap (λ m. replicate m 0) none
+white_zeros written width (suc count) n is =
+    let len = packed_len width in
+    let all : len + count * len ≡ n = omega (arith, is) in
+    ap (λ bytes. bytes ++ flat_map packed_row (replicate count (white_row width))) (written.packed width)
+    ∙ ap (λ bytes. replicate len 0 ++ bytes) (white_zeros written width count (count * len) refl)
+    ∙ replicate-append-replicate len (count * len) 0
+    ∙ ap (λ m. replicate m 0) all

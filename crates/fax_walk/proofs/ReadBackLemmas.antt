@@ -34,7 +34,7 @@ use Rattle.fax_walk.proofs.SourcePageLemmas.{first_page, found_page}
 -- a page of a form within the limits, whose rows have its width, can be written
 page_writable : (form : PageForm) (own : List RowItem) → IsPageForm form → length own ≡ form.rows
     → AreOfWidth form.width (pels_of_runs own)
-    → IsWritableSource (page_of (form_sheet form) (pels_of_runs own))
+    → IsWritableSource (page_of (form_sheet form) (pels_of_runs own) None)
 page_writable form own limits count wide = grind (arith, length-map)
 
 -- an image that was read can be written
@@ -59,7 +59,7 @@ some_images : (bytes : List ℕ) (images : List Image) → StartsWith bytes (cod
     → 1 ≤ length images
 some_images bytes images begins are = grind (arith, common_steps)
 
-pages_counted : (forms : List FormItem) (items : List RowItem) → length (pages_of forms items) ≡ length forms
+pub pages_counted : (forms : List FormItem) (items : List RowItem) → length (pages_of forms items) ≡ length forms
 pages_counted [] items = refl
 pages_counted (one ∷ forms) items = ap suc (pages_counted forms (drop one.form.rows items))
 
@@ -100,11 +100,12 @@ module _ (packs : PackingUndoesUnpacking) (paged : FilesArePaged) (within_limits
       let found = found_page file p one next step in
       let limits : IsPageForm one.form =
       subst IsPageForm (sym found.2) (page_limits file bytes (record { page = p; row = 0 }) found.0 found.1) in
-      let this : IsWritableSource (page_of (form_sheet one.form) (pels_of_runs own)) =
+      let this : IsWritableSource (page_of (form_sheet one.form) (pels_of_runs own) None) =
       page_writable one.form own limits whole.0 (rows_wide p one.form 0 own are) in
       let later = forms_writable file bytes forms (p + 1) others (rw found.3 at rest) whole.2 in
       subst (All IsWritableSource) (sym (first_page one forms items own others items_are whole.0))
-      (All-cons IsWritableSource (page_of (form_sheet one.form) (pels_of_runs own)) (pages_of forms others) this later)
+      (All-cons IsWritableSource (page_of (form_sheet one.form) (pels_of_runs own) None) (pages_of forms others) this
+      later)
 
   source_writable : (bytes : List ℕ) → All (λ byte. byte < 256) bytes → (pages : List SourcePage) → IsSource bytes pages
       → All IsWritableSource pages × (1 ≤ length pages)
@@ -136,7 +137,7 @@ images_of_pages (source ∷ pages) are = (
 
 module _ (written : CodedFilesAreWalked) (images : WrittenImagesAreRead) (options : Options) (pages : List SourcePage)
     (are : All IsWritableSource pages) (some : 1 ≤ length pages) where
-  read_back : (target : Target) → options.target ≡ target → (output : List ℕ)
+  pub read_back : (target : Target) → options.target ≡ target → (output : List ℕ)
       → output ≡ target_bytes target options pages
       → (IsTooLarge target pages output → ⊥) → AreReadBack target options pages output
   read_back target target_is output output_is fits = grind (arith, images_of_pages)

@@ -80,7 +80,7 @@ pub broken_next : (chain : ChainState) (answer : Result (Option TiffDirectory) F
 broken_next chain answer fault before upcoming is = grind (arith, all_passed, upcoming_fault)
 
 -- the offset that stands after others
-dropped_at : (offsets : List ℕ) (n q : ℕ) → slice_get offsets n ≡ Some q → drop n offsets ≡ q ∷ drop (n + 1) offsets
+pub dropped_at : (offsets : List ℕ) (n q : ℕ) → slice_get offsets n ≡ Some q → drop n offsets ≡ q ∷ drop (n + 1) offsets
 dropped_at [] zero q is = cc
 dropped_at [] (suc n) q is = cc
 dropped_at (x ∷ offsets) zero q is = cc

@@ -38,17 +38,17 @@ lost_both : (first : LostRows) (p r count : ℕ) (cause : Cause) (items : List S
 lost_both first p r count cause items = grind arith
 
 -- rows that are lost, one after another
-lost_rows : (p r count : ℕ) (cause : Cause) (rows : List PageRow)
+count_lost : (p r count : ℕ) (cause : Cause) (rows : List PageRow)
     → page_items p r (replicate (suc count) (Err cause) ++ rows)
     ≡ with_lost (Some (stretch_of p r (suc count) cause)) (page_items p (r + suc count) rows)
-lost_rows p r zero cause rows = lost_one p r cause (page_items p (r + 1) rows)
-lost_rows p r (suc count) cause rows = grind (arith, lost_rows p (r + 1) count cause rows, lost_more)
+count_lost p r zero cause rows = lost_one p r cause (page_items p (r + 1) rows)
+count_lost p r (suc count) cause rows = grind (arith, count_lost p (r + 1) count cause rows, lost_more)
 
 -- and after others
 pub lost_on : (lost : Option LostRows) (p r count : ℕ) (cause : Cause) (rows : List PageRow) → 0 < count
     → with_lost lost (page_items p r (replicate count (Err cause) ++ rows))
     ≡ with_lost (Some (longer lost p r count cause)) (page_items p (r + count) rows)
-lost_on lost p r count cause rows some = grind (arith, lost_rows, lost_both)
+lost_on lost p r count cause rows some = grind (arith, count_lost, lost_both)
 
 -- where no row waits
 unwaited : (state : SalvagePageState) (items : List SalvagedItem) → state.waits ≡ false → with_waiting state items

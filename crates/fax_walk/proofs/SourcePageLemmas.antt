@@ -29,7 +29,7 @@ use Rattle.fax_walk.specs.laws.InOrder.{LeadTo}
 use Rattle.fax_walk.proofs.InOrderLemmas.{IsOneAnswer, ended_at, one_from, same_step}
 use Rattle.fax_walk.proofs.RowLawLemmas.{any_row, whole_page, LinesAreRead, one_in_strip, one_row}
 
-exchanged_length : (form : PageForm) (row : List Colour) → length (exchanged form row) ≡ length row
+pub exchanged_length : (form : PageForm) (row : List Colour) → length (exchanged form row) ≡ length row
 exchanged_length form row = grind (arith, common_steps)
 
 -- from the place of a page's row r on these rows stand: all up to the page's last one, which leads
@@ -121,7 +121,7 @@ pub found_page : (file : List ℕ) (p : ℕ) (one : FormItem) (next : ℕ) → I
 found_page file p one next is = grind arith
 
 -- what is returned after items that lead to a place
-after_led : {S A : Type 0} (next : S → NextItem A S → Type 0) → ((at : S) → IsOneAnswer (next at)) → (at to : S)
+pub after_led : {S A : Type 0} (next : S → NextItem A S → Type 0) → ((at : S) → IsOneAnswer (next at)) → (at to : S)
     (own items : List A) (end : End) → LeadTo next at own to → AreFrom next at items end
     → (others : List A) × (items ≡ own ++ others) × AreFrom next to others end
 after_led {S} {A} next answers at to [] items end to_is are = grind arith
@@ -184,5 +184,5 @@ module _ (by_place : AreBitsByIndex) (lines_read : LinesAreRead) (chains : Files
 -- the first page of forms and items whose first are its rows
 pub first_page : (one : FormItem) (forms : List FormItem) (items own others : List RowItem) → items ≡ own ++ others
     → length own ≡ one.form.rows
-    → pages_of (one ∷ forms) items ≡ page_of (form_sheet one.form) (pels_of_runs own) ∷ pages_of forms others
+    → pages_of (one ∷ forms) items ≡ page_of (form_sheet one.form) (pels_of_runs own) None ∷ pages_of forms others
 first_page one forms items own others items_are count = grind (arith, take_at, drop_at)

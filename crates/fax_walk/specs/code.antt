@@ -14,4 +14,5 @@ pub mod SalvageItems
 pub mod SalvagePage
 pub mod SalvageFile
 pub mod ShownRows
+pub mod OnPaper
 pub mod SalvagedRows

@@ -9,3 +9,4 @@ pub mod ReadBack
 pub mod Answers
 pub mod Salvaged
 pub mod SalvagedRows
+pub mod SalvagedFiles

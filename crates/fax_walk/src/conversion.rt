@@ -78,7 +78,7 @@ fn put_lent(
     begin_page(alloc, last, options, output)?;
     output.put_row(last.row)?;
     if last.place.row + 1 == last.form.rows {
-        output.end()?;
+        output.end(None)?;
     }
     Ok(())
 }

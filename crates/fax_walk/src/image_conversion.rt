@@ -39,7 +39,7 @@ fn convert_image(
         row.set_packed(image.row(i));
         output.put_row(&row)?;
     }
-    output.end()
+    output.end(None)
 }
 
 /// Raw PBM that is converted as its bytes come: whole images are taken and forgotten, and what they

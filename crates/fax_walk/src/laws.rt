@@ -11,6 +11,7 @@ ghost use Rattle.fax_walk.specs.laws.RowSource.{IsLeft};
 ghost use Rattle.fax_walk.specs.laws.Printed as PrintedLaws;
 ghost use Rattle.fax_walk.specs.laws.SalvagedRows.{AreLeftFromPlaces, AreLeftOneWay, PagesAreLeft};
 ghost use Rattle.fax_walk.specs.laws.Salvaged.{IsSalvagedOneWay};
+ghost use Rattle.fax_walk.specs.laws.SalvagedFiles as FileLaws;
 ghost use Rattle.fax_walk.specs.laws.ReadBack as ReadBackLaws;
 ghost use Rattle.fax_walk.specs.Items.{RowItem};
 ghost use Rattle.fax_walk.specs.laws.WrittenFiles as WrittenLaws;
@@ -205,6 +206,13 @@ pub fn files_are_salvaged_in_one_way()
     fax_page::laws::strips_are_salvaged_in_one_way();
 }
 
+/// A damaged file is written anew in one way: its pages are one list.
+pub fn salvaged_files_are_one()
+    ensures { FileLaws.FilesAreSalvagedToOne }
+{
+    fax_page::laws::strips_are_salvaged_in_one_way();
+}
+
 /// What is left of a page, or of a strip with no file around it, is one list of rows, found or
 /// lost; and what is left of a file has that of each page. From any place of a page on it is one
 /// list too, and from its first row on it is what is left of the page.
@@ -215,4 +223,42 @@ pub fn rows_are_left_in_one_way()
 {
     fax_page::laws::strips_are_salvaged_in_one_way();
     fax_page::laws::uncounted_rows_are_left_in_one_way();
+}
+
+/// What a file is salvaged to is read back as its pages: the rows that are found, and white ones
+/// where they are lost.
+pub fn salvaged_files_are_read_back()
+    ensures { FileLaws.SalvagedFilesAreReadBack }
+{
+    fax_page::laws::lines_are_read_in_one_way();
+    fax_page::laws::strips_are_salvaged_in_one_way();
+    fax_files::laws::forms_are_within_limits();
+    fax_files::laws::written_images_are_read();
+    coded_files_are_walked();
+}
+
+/// A TIFF file that a file was salvaged to is salvaged by the same options to itself.
+pub fn salvaged_files_stay()
+    ensures { FileLaws.SalvagedFilesStay }
+{
+    fax_page::laws::lines_are_read_by_a_function();
+    fax_page::laws::lines_are_read_in_one_way();
+    fax_page::laws::strips_are_salvaged_in_one_way();
+    fax_page::laws::whole_strips_are_found();
+    fax_page::laws::coded_strips_are_read_back();
+    fax_files::laws::forms_are_within_limits();
+    fax_files::laws::written_files_are_read();
+}
+
+/// A TIFF file that is converted, and of which no page says bad rows, is salvaged to what it is
+/// converted to.
+pub fn whole_files_are_converted()
+    ensures { FileLaws.WholeFilesAreConverted }
+{
+    fax_bits::laws::bits_stand_by_index();
+    fax_page::laws::lines_are_read_by_a_function();
+    fax_page::laws::lines_are_read_in_one_way();
+    fax_page::laws::strips_are_salvaged_in_one_way();
+    fax_page::laws::whole_strips_are_found();
+    fax_files::laws::forms_are_whole();
 }

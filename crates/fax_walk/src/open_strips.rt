@@ -1,5 +1,5 @@
 //! The strips of a page that is being written.
-ghost use Rattle.std.specs.Prelude.{◌≡◌, ◌<◌, ◌++◌, [], ◌∷◌, List, length, OnOk};
+ghost use Rattle.std.specs.Prelude.{◌≡◌, ◌<◌, ◌≤◌, ◌++◌, [], ◌∷◌, List, length, OnOk, IfOk};
 ghost use Rattle.fax_bits.specs.declared.Colour.{Colour};
 ghost use Rattle.fax_page.specs.views.Strip.{IsStripForm};
 ghost use Rattle.fax_files.specs.views.Page.{IsPageForm};
@@ -95,6 +95,43 @@ impl StripsWriter {
         let end = ((strip + 1) * self.form.rows_per_strip).min(self.form.rows);
         if self.rows == end {
             self.end_strip()?;
+        }
+        Ok(())
+    }
+
+    /// Writes white rows next, up to so many, as far as their strip goes, and the strip where that
+    /// is whole then. Returns how many were written.
+    fn put_white_part(&mut self, most: u32) -> Result<u32, Memory>
+        requires some { 0 < most }
+        requires upcoming { Spec.TakesWhiteRows self.old most }
+        ensures some { IfOk result (λ count. 0 < count) }
+        ensures few { IfOk result (λ count. count ≤ most) }
+        ensures put { IfOk result (λ count. Spec.PutsWhiteRows self.old count self.new) }
+    {
+        fax_page::laws::strips_are_written_row_by_row();
+        let strip = self.done.len() as u32;
+        self.open_strip(strip)?;
+        let Some(writer) = &mut self.writer else {
+            unreachable!();
+        };
+        let end = ((strip + 1) * self.form.rows_per_strip).min(self.form.rows);
+        let count = most.min(end - self.rows);
+        writer.put_white_rows(count)?;
+        self.rows += count;
+        if self.rows == end {
+            self.end_strip()?;
+        }
+        Ok(count)
+    }
+
+    /// Writes so many white rows next, strip after strip, in time by the bytes that they become.
+    pub(crate) fn put_white_rows(&mut self, count: u32) -> Result<(), Memory>
+        requires { Spec.TakesWhiteRows self.old count }
+        ensures { OnOk result (Spec.PutsWhiteRows self.old count self.new) }
+    {
+        let mut remaining = count;
+        while remaining > 0 {
+            remaining -= self.put_white_part(remaining)?;
         }
         Ok(())
     }

@@ -1,5 +1,5 @@
 //! What a conversion writes, page by page.
-ghost use Rattle.std.specs.Prelude.{◌≡◌, OnOk, IfOk, IfErr};
+ghost use Rattle.std.specs.Prelude.{◌≡◌, ◌<◌, ◌^◌, OnOk, IfOk, IfErr};
 ghost use Rattle.fax_walk.specs.declared.options.Options.{Options as Choice};
 ghost use Rattle.fax_walk.specs.code.Output as Spec;
 ghost use Rattle.fax_walk.specs.code.Output.{Progress};
@@ -9,7 +9,7 @@ use crate::options::{ConvertFault, Options};
 use crate::page_size::PageSize;
 use crate::parts::SparseBytes;
 use fax_bits::Memory;
-use fax_files::{Coding, MAX_FILE, TiffWriter, WriteFault};
+use fax_files::{BadRows, Coding, MAX_FILE, TiffWriter, WriteFault};
 use fax_rows::Row;
 use std::alloc::Global;
 
@@ -94,10 +94,27 @@ impl Output {
         }
     }
 
-    /// Ends the page, of which all rows were written.
-    pub(crate) fn end(&mut self) -> Result<(), Memory>
+    /// Writes the page's next rows, so many that are white and have this width, in time by the
+    /// bytes
+    /// that they become.
+    pub(crate) fn put_white_rows(&mut self, width: u32, count: u32) -> Result<(), Memory>
+        requires { Spec.TakesWhiteRows self.old width count }
+        ensures { OnOk result (Spec.PutsWhiteRows self.old width count self.new) }
+    {
+        fax_rows::laws::packing_undoes_unpacking();
+        match self {
+            Output::Images(parts) => parts.put_white_rows(width, count),
+            Output::File(_, _, Some(page)) => page.put_white_rows(count),
+            Output::File(_, _, None) => Ok(()),
+            Output::TooLarge => Ok(()),
+        }
+    }
+
+    /// Ends the page, of which all rows were written, and which says these bad rows, if any are
+    /// given.
+    pub(crate) fn end(&mut self, bad: Option<BadRows>) -> Result<(), Memory>
         requires { Spec.HasAllRows self.old }
-        ensures { OnOk result (Spec.EndsPage self.old self.new) }
+        ensures { OnOk result (Spec.EndsPage bad self.old self.new) }
     {
         fax_files::laws::totals_are_told();
         let Output::File(_, writer, open) = self else {
@@ -106,7 +123,7 @@ impl Output {
         let Some(page) = open.take() else {
             return Ok(());
         };
-        match writer.add_page(&page.form, &page.done) {
+        match writer.add_page_with(&page.form, &page.done, bad) {
             Ok(()) => Ok(()),
             Err(WriteFault::Memory) => Err(Memory),
             Err(WriteFault::OutputTooLarge) => {

@@ -1,9 +1,10 @@
 //! The bytes of an output, of which white rows are not held.
-ghost use Rattle.std.specs.Prelude.{◌≡◌, ◌+◌, ◌<◌, ◌≤◌, ◌++◌, [], length, replicate, OnOk, IfOk};
-ghost use Rattle.std.specs.Prelude.{IfSome, IfNone};
+ghost use Rattle.std.specs.Prelude.{◌≡◌, ◌+◌, ◌*◌, ◌<◌, ◌≤◌, ◌++◌, [], length, replicate, OnOk};
+ghost use Rattle.std.specs.Prelude.{OnErr, IfOk, IfSome, IfNone, flat_map};
 ghost use Rattle.fax_files.specs.Directory.{max_file};
 ghost use Rattle.fax_files.specs.views.Pbm.{head_bytes};
 ghost use Rattle.fax_rows.specs.Coded.{packed_len, packed_row};
+ghost use Rattle.fax_page.specs.Lines.{white_row};
 ghost use Rattle.fax_walk.specs.views.SparseBytes.{part_bytes};
 
 use fax_bits::Memory;
@@ -14,6 +15,16 @@ use std::marker::Model;
 
 /// White rows of fewer bytes are held like others: a gap takes memory too.
 const LEAST_GAP: usize = 64;
+
+/// Pushes so many zeros.
+fn push_zeros(bytes: &mut Vec<u8>, zeros: usize) -> Result<(), Memory>
+    requires { length bytes.old.items + zeros ≤ max_file }
+    ensures ok { OnOk result (bytes.new.items ≡ bytes.old.items ++ replicate zeros 0) }
+    ensures err { OnErr result (bytes.new.items ≡ bytes.old.items) }
+{
+    let len = bytes.len() + zeros;
+    bytes.resize(len, 0).map_err(|_| Memory)
+}
 
 /// Zeros that are not held, after so many bytes that are.
 #[derive(Clone, Copy)]
@@ -122,6 +133,20 @@ impl SparseBytes {
             return self.put_zeros(len);
         }
         put_pbm_row(&mut self.held, row)
+    }
+
+    /// Appends so many white rows of an image of this width. Many of them are not held.
+    pub(crate) fn put_white_rows(&mut self, width: u32, count: u32) -> Result<(), Memory>
+        requires { length self.old + count * packed_len width ≤ max_file }
+        ensures { OnOk result (self.new ≡ self.old
+            ++ flat_map packed_row (replicate count (white_row width))) }
+    {
+        fax_rows::laws::white_rows_are_written();
+        let zeros = count as usize * (width as usize).div_ceil(8);
+        if zeros >= LEAST_GAP && !self.held.is_empty() {
+            return self.put_zeros(zeros);
+        }
+        push_zeros(&mut self.held, zeros)
     }
 
     /// All bytes.

@@ -4,6 +4,7 @@
 use kit_std::prelude::Vec;
 
 use crate::bit_reversal::reverse_bits;
+use crate::window::word_at;
 use crate::{BitSource, FillOrder, Memory};
 use kit_std::alloc::Global;
 use kit_std::marker::Model;
@@ -164,6 +165,33 @@ impl BitSink {
         push_word(&mut self.bytes, (pending >> count) as u32);
         self.pending = pending & ((1 << count) - 1);
         Ok(())
+    }
+
+    /// Puts the bits of bytes, the highest bit of each first.
+    // ensures ok { OnOk result (Appends self.old (bits MsbFirst bytes.now) self.new) }
+    // ensures same_order { self.new.order ≡ self.old.order }
+    fn put_bytes(&mut self, bytes: &[u8]) -> Result<(), Memory> {
+        let mut at = 0;
+        while bytes.len() - at >= 4 {
+            self.put_word(word_at(bytes, at, FillOrder::MsbFirst))?;
+            at += 4;
+        }
+        for byte in &bytes[at..] {
+            self.put(u32::from(*byte), 8)?;
+        }
+        Ok(())
+    }
+
+    /// Puts all bits of another sink.
+    ///
+    /// # Errors
+    ///
+    /// Where a growth was refused. Some of the bits may have been put then.
+    // ensures ok { OnOk result (Appends self.old other.now.bits self.new) }
+    // ensures same_order { self.new.order ≡ self.old.order }
+    pub fn put_bits_of(&mut self, other: &BitSink) -> Result<(), Memory> {
+        self.put_bytes(&other.bytes)?;
+        self.put(other.pending as u32, other.count)
     }
 
     /// Puts zeros up to a whole byte. This takes no memory.

@@ -7,11 +7,11 @@ use crate::caller_text::put_text;
 /// third.
 // ensures { result ≡ Spec.version_number }
 pub fn faxpages_version() -> u32 {
-    11_400
+    11_500
 }
 
 /// Writes the version where it has room, and returns how many bytes it has.
 // ensures { Spec.IsTextPut Spec.version text.old result text.new }
 pub fn faxpages_version_text(text: &mut [u8]) -> usize {
-    put_text(b"1.14.0", text)
+    put_text(b"1.15.0", text)
 }

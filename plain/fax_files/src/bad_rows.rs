@@ -1,5 +1,7 @@
 // Made by tools/plain-rust of crates/fax_files/src/bad_rows.rt: change that.
-//! What the receiver of a page counted of bad rows (RFC 2306).
+//! What the receiver of a page counted of bad rows, and what a page that is written says of them
+//! (RFC
+//! 2306).
 
 use crate::directory::Directory;
 use crate::tags::{BAD_FAX_LINES, CLEAN_FAX_DATA, CONSECUTIVE_BAD_FAX_LINES};
@@ -17,6 +19,16 @@ pub struct Received {
     /// How many bad rows came one after another at most (RFC 2306, ConsecutiveBadFaxLines), 0 to
     /// 4,294,967,295.
     pub consecutive: Option<u32>,
+}
+
+/// How many rows of a page that is written are bad, others of which stand in their places
+/// (RFC 2306, CleanFaxData).
+#[derive(Clone, Copy, Debug, PartialEq, Eq)]
+pub struct BadRows {
+    /// How many they are (RFC 2306, BadFaxLines).
+    pub count: u32,
+    /// How many came one after another at most (RFC 2306, ConsecutiveBadFaxLines).
+    pub consecutive: u32,
 }
 
 impl<'a> Directory<'a> {

@@ -17,7 +17,7 @@ mod tiff_writer;
 mod totals;
 mod written;
 
-pub use bad_rows::Received;
+pub use bad_rows::{BadRows, Received};
 pub use chain::Chain;
 pub use directory::Directory;
 pub use fax_page;

@@ -3,12 +3,12 @@
 
 use kit_std::prelude::Vec;
 
-use crate::PageForm;
 use crate::totals::put_totals;
 use crate::written::{
-    MAX_FILE, StripsAt, TO_NEXT_OFFSET, append, page_end, page_layout, page_tail, set_link,
-    strips_end,
+    MAX_FILE, StripsAt, append, page_end, page_layout, page_tail, set_link, strips_end,
+    to_next_offset,
 };
+use crate::{BadRows, PageForm};
 use fax_bits::Memory;
 use kit_std::alloc::Global;
 use kit_std::marker::Model;
@@ -48,13 +48,14 @@ pub struct PageBytes {
 // requires exchanged { form.now.exchanged ≡ false }
 // requires strips { length strips.now ≡ form.now.strips }
 // ensures bytes { IfOk result (λ page. page.bytes.items
-//     ≡ page_bytes start total number form.now (Spec.contents strips.now)) }
+//     ≡ page_bytes start total number (page_of form.now (Spec.contents strips.now))) }
 // ensures directory { IfOk result (λ page. page.directory
 //     ≡ directory_offset start (Spec.contents strips.now)) }
-// ensures link { IfOk result (λ page. page.link ≡ page.directory + to_link) }
+// ensures link { IfOk result (λ page. page.link ≡ page.directory + to_link None) }
 // ensures within { IfOk result (λ page. start + length page.bytes.items ≤ max_file) }
 // ensures too_large { (result ≡ Err WriteFault.OutputTooLarge) ↔ (max_file
-//     < start + length (page_bytes start total number form.now (Spec.contents strips.now))) }
+//     < start
+//     + length (page_bytes start total number (page_of form.now (Spec.contents strips.now)))) }
 pub fn write_page(
     alloc: Global,
     form: &PageForm,
@@ -66,10 +67,10 @@ pub fn write_page(
     let Some(end) = strips_end(start, strips) else {
         return Err(WriteFault::OutputTooLarge);
     };
-    if page_end(end + end % 2, form.strips) > u64::from(MAX_FILE) {
+    if page_end(end + end % 2, form.strips, None) > u64::from(MAX_FILE) {
         return Err(WriteFault::OutputTooLarge);
     }
-    let at = page_layout(form.strips, start, end, number, total);
+    let at = page_layout(form.strips, start, end, number, total, None);
     let placed = StripsAt { strips, start, end };
     let Ok(tail) = page_tail(alloc, form, placed, &at) else {
         return Err(WriteFault::Memory);
@@ -81,7 +82,7 @@ pub fn write_page(
     Ok(PageBytes {
         bytes,
         directory: at.directory,
-        link: at.directory + TO_NEXT_OFFSET,
+        link: at.directory + to_next_offset(None),
     })
 }
 
@@ -130,22 +131,47 @@ impl TiffWriter {
     // requires limits { IsPageForm form.now }
     // requires exchanged { form.now.exchanged ≡ false }
     // requires strips { length strips.now ≡ form.now.strips }
-    // ensures ok { OnOk result (self.new ≡ Spec.with_one_more self.old form.now strips.now) }
+    // ensures ok { OnOk result (self.new
+    //     ≡ Spec.with_one_more self.old (Spec.given_page form.now strips.now None)) }
     // ensures err { OnErr result (self.new ≡ self.old) }
     // ensures too_large { (result ≡ Err WriteFault.OutputTooLarge)
-    //     ↔ (max_file < Spec.length_with self.old form.now strips.now) }
+    //     ↔ (max_file < Spec.length_with self.old (Spec.given_page form.now strips.now None)) }
     pub fn add_page(&mut self, form: &PageForm, strips: &[Vec<u8>]) -> Result<(), WriteFault> {
+        self.add_page_with(form, strips, None)
+    }
+
+    /// Adds a page of this form, of which these are the bytes of each strip, and which says these
+    /// bad rows, if any are given.
+    ///
+    /// # Errors
+    ///
+    /// As `add_page`.
+    // requires fewer { self.old.added < self.old.total }
+    // requires limits { IsPageForm form.now }
+    // requires exchanged { form.now.exchanged ≡ false }
+    // requires strips { length strips.now ≡ form.now.strips }
+    // ensures ok { OnOk result (self.new
+    //     ≡ Spec.with_one_more self.old (Spec.given_page form.now strips.now bad)) }
+    // ensures err { OnErr result (self.new ≡ self.old) }
+    // ensures too_large { (result ≡ Err WriteFault.OutputTooLarge)
+    //     ↔ (max_file < Spec.length_with self.old (Spec.given_page form.now strips.now bad)) }
+    pub fn add_page_with(
+        &mut self,
+        form: &PageForm,
+        strips: &[Vec<u8>],
+        bad: Option<BadRows>,
+    ) -> Result<(), WriteFault> {
         // The page's tail is made first, memory is reserved once for strips and tail, and only then
         // is anything appended. The link to the page is set last.
         let start = self.bytes.len() as u32;
         let Some(end) = strips_end(start, strips) else {
             return Err(WriteFault::OutputTooLarge);
         };
-        let page_end = page_end(end + end % 2, form.strips);
+        let page_end = page_end(end + end % 2, form.strips, bad);
         if page_end > u64::from(MAX_FILE) {
             return Err(WriteFault::OutputTooLarge);
         }
-        let at = page_layout(form.strips, start, end, self.added, self.total);
+        let at = page_layout(form.strips, start, end, self.added, self.total, bad);
         let placed = StripsAt { strips, start, end };
         let Ok(tail) = page_tail(self.alloc, form, placed, &at) else {
             return Err(WriteFault::Memory);
@@ -162,7 +188,7 @@ impl TiffWriter {
             return Err(WriteFault::Memory);
         }
         set_link(&mut self.bytes, self.link as usize, at.directory);
-        self.link = at.directory + TO_NEXT_OFFSET;
+        self.link = at.directory + to_next_offset(bad);
         self.added += 1;
         Ok(())
     }

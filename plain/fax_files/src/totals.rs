@@ -3,18 +3,32 @@
 
 use crate::Endian;
 use crate::numbers::File;
-use crate::written::TO_NEXT_OFFSET;
+use crate::written::{FORM_FIELDS, after_fields};
 use byteorder::{ByteOrder, LittleEndian};
 
-/// Where the link of the page stands to whose directory a link leads.
-// requires { link + 4 ≤ length file.now }
-// ensures { result ≡ Spec.next_link file.now link }
-fn next_link(file: &[u8], link: usize) -> usize {
+/// The directory to which a link leads.
+struct Linked {
+    /// Its offset.
+    directory: usize,
+    /// Where its own link stands.
+    link: usize,
+}
+
+/// The directory to which a link leads.
+// requires { Spec.IsLinkToPage file.now link }
+// ensures directory { result.directory ≡ number_at Little 4 file.now link }
+// ensures link { result.link ≡ Spec.next_link file.now link }
+fn follow(file: &[u8], link: usize) -> Linked {
     let file = File {
         bytes: file,
         endian: Endian::Little,
     };
-    file.u32_at(link) as usize + TO_NEXT_OFFSET as usize
+    let directory = file.u32_at(link) as usize;
+    let fields = file.u16_at(directory);
+    Linked {
+        directory,
+        link: directory + after_fields(fields) as usize,
+    }
 }
 
 /// Writes a number of two bytes at an offset.
@@ -31,9 +45,12 @@ fn set_u16(file: &mut [u8], offset: usize, n: u16) {
 // requires pages { (last : ℕ) × Spec.ArePagesAfter file.old pages 4 last }
 // ensures { file.new ≡ Spec.with_totals pages pages 4 file.old }
 pub fn put_totals(file: &mut [u8], pages: u16) {
+    // PageNumber is the last of the fields that each page has, and the total its second number.
+    let to_total = after_fields(FORM_FIELDS) as usize - 2;
     let mut link = 4;
     for _ in 0..pages {
-        link = next_link(file, link);
-        set_u16(file, link - 2, pages);
+        let page = follow(file, link);
+        set_u16(file, page.directory + to_total, pages);
+        link = page.link;
     }
 }

@@ -3,7 +3,7 @@
 
 use kit_std::prelude::Vec;
 
-use crate::{PageForm, tags};
+use crate::{BadRows, PageForm, tags};
 use byteorder::{ByteOrder, LittleEndian};
 use fax_bits::FillOrder;
 use fax_page::Coding;
@@ -13,18 +13,41 @@ use kit_std::marker::Model;
 /// The most bytes of a file that is written.
 pub const MAX_FILE: u32 = 268_435_456;
 
-/// The number of fields of a directory.
-const FIELDS: usize = 16;
-/// How far after a directory's first byte its next offset stands: after the number of its fields,
-/// and
-/// twelve bytes of each.
-pub(crate) const TO_NEXT_OFFSET: u32 = 2 + 12 * FIELDS as u32;
-/// How far after it the fraction of XResolution stands.
-const TO_X_RESOLUTION: u32 = TO_NEXT_OFFSET + 4;
+/// The number of fields that the directory of each page has.
+pub(crate) const FORM_FIELDS: u16 = 16;
+/// The number of fields that say a page's bad rows.
+const BAD_FIELDS: u16 = 3;
+
+/// The number of fields of a page that says these bad rows.
+// ensures { result ≡ Spec.field_count bad }
+fn field_count(bad: Option<BadRows>) -> u16 {
+    if bad.is_some() {
+        FORM_FIELDS + BAD_FIELDS
+    } else {
+        FORM_FIELDS
+    }
+}
+
+/// How far after a directory's first byte the bytes after so many fields stand: after their number,
+/// and twelve bytes of each (TIFF 6.0, section 2).
+// ensures { result ≡ Spec.after_fields count }
+pub(crate) fn after_fields(count: u16) -> u32 {
+    2 + 12 * u32::from(count)
+}
+
+/// How far after a directory's first byte its next offset stands.
+// ensures exact { result ≡ Spec.to_link bad }
+// ensures near { result ≤ 230 }
+pub(crate) fn to_next_offset(bad: Option<BadRows>) -> u32 {
+    after_fields(field_count(bad))
+}
+
+/// How far after a directory's next offset the fraction of XResolution stands.
+const LINK_TO_X_RESOLUTION: u32 = 4;
 /// How far after it the fraction of YResolution stands.
-const TO_Y_RESOLUTION: u32 = TO_X_RESOLUTION + 8;
+const LINK_TO_Y_RESOLUTION: u32 = LINK_TO_X_RESOLUTION + 8;
 /// How far after it the strips' offsets stand, where there are more than one.
-const TO_STRIP_OFFSETS: u32 = TO_Y_RESOLUTION + 8;
+const LINK_TO_STRIP_OFFSETS: u32 = LINK_TO_Y_RESOLUTION + 8;
 
 /// The four bytes of a number.
 // ensures { result ≡ Spec.four n }
@@ -143,6 +166,8 @@ pub(crate) struct Layout {
     pub offsets: u32,
     /// The value of StripByteCounts: the one byte count, or the offset of the first.
     pub byte_counts: u32,
+    /// The bad rows that the page says.
+    pub bad: Option<BadRows>,
 }
 
 /// Appends the entry of a field.
@@ -161,12 +186,11 @@ fn put_rational(out: &mut Vec<u8>, value: (u32, u32)) -> Result<(), AllocError> 
     push_u32(out, value.1)
 }
 
-/// The fields of a page.
+/// The fields that the directory of each page has.
 // requires { at.now.directory ≤ max_file }
-// ensures { result ≡ laid_out_fields at.now form.now }
-fn page_fields(form: &PageForm, at: &Layout) -> [Field; FIELDS] {
-    // The offsets of a directory's parts are computed from `FIELDS`, in the definitions too: one
-    // more field is a line in each, and the two counts.
+// ensures { result ++ Spec.bad_fields at.now.bad ≡ laid_out_fields at.now form.now }
+fn form_fields(form: &PageForm, at: &Layout) -> [Field; FORM_FIELDS as usize] {
+    let link = at.directory + to_next_offset(at.bad);
     [
         long_field(tags::NEW_SUBFILE_TYPE, 1, 2),
         long_field(tags::IMAGE_WIDTH, 1, form.width),
@@ -179,8 +203,8 @@ fn page_fields(form: &PageForm, at: &Layout) -> [Field; FIELDS] {
         short_field(tags::SAMPLES_PER_PIXEL, 1),
         long_field(tags::ROWS_PER_STRIP, 1, form.rows_per_strip),
         long_field(tags::STRIP_BYTE_COUNTS, at.strips, at.byte_counts),
-        rational_field(tags::X_RESOLUTION, at.directory + TO_X_RESOLUTION),
-        rational_field(tags::Y_RESOLUTION, at.directory + TO_Y_RESOLUTION),
+        rational_field(tags::X_RESOLUTION, link + LINK_TO_X_RESOLUTION),
+        rational_field(tags::Y_RESOLUTION, link + LINK_TO_Y_RESOLUTION),
         options_field(form.coding, form.aligned),
         short_field(tags::RESOLUTION_UNIT, form.unit),
         Field {
@@ -192,15 +216,39 @@ fn page_fields(form: &PageForm, at: &Layout) -> [Field; FIELDS] {
     ]
 }
 
-/// Appends a directory of these fields, with the next offset 0.
-// requires { length fields.now < 65536 }
-// ensures { OnOk result (out.new.items ≡ out.old.items ++ SparseBytes.fields_bytes fields.now
-//     ++ Spec.four 0) }
-fn put_directory(out: &mut Vec<u8>, fields: &[Field]) -> Result<(), AllocError> {
-    push_u16(out, fields.len() as u16)?;
+/// Appends the entries of fields.
+// ensures { OnOk result (out.new.items ≡ out.old.items ++ flat_map Spec.field_bytes fields.now) }
+fn put_fields(out: &mut Vec<u8>, fields: &[Field]) -> Result<(), AllocError> {
     for field in fields {
         put_field(out, field)?;
     }
+    Ok(())
+}
+
+/// Appends the entries of the fields that say bad rows, if they are to be said.
+// ensures { OnOk result (out.new.items
+//     ≡ out.old.items ++ flat_map Spec.field_bytes (Spec.bad_fields bad)) }
+fn put_bad_fields(out: &mut Vec<u8>, bad: Option<BadRows>) -> Result<(), AllocError> {
+    let Some(bad) = bad else {
+        return Ok(());
+    };
+    put_field(out, &long_field(tags::BAD_FAX_LINES, 1, bad.count))?;
+    put_field(out, &short_field(tags::CLEAN_FAX_DATA, 1))?;
+    put_field(
+        out,
+        &long_field(tags::CONSECUTIVE_BAD_FAX_LINES, 1, bad.consecutive),
+    )
+}
+
+/// Appends a page's directory, with the next offset 0.
+// requires { at.now.directory ≤ max_file }
+// ensures { OnOk result (out.new.items
+//     ≡ out.old.items ++ SparseBytes.fields_bytes (laid_out_fields at.now form.now)
+//     ++ Spec.four 0) }
+fn put_directory(out: &mut Vec<u8>, form: &PageForm, at: &Layout) -> Result<(), AllocError> {
+    push_u16(out, field_count(at.bad))?;
+    put_fields(out, &form_fields(form, at))?;
+    put_bad_fields(out, at.bad)?;
     push_u32(out, 0)
 }
 
@@ -267,7 +315,7 @@ pub(crate) fn page_tail(
     if end % 2 == 1 {
         tail.extend_from_slice(&[0])?;
     }
-    put_directory(&mut tail, &page_fields(form, at))?;
+    put_directory(&mut tail, form, at)?;
     put_rational(&mut tail, form.x)?;
     put_rational(&mut tail, form.y)?;
     if at.strips != 1 {
@@ -277,27 +325,35 @@ pub(crate) fn page_tail(
     Ok(tail)
 }
 
-/// How many bytes a file has whose last page has its directory at this offset, and so many strips.
-// ensures { result ≡ end_of_page directory strips }
-pub(crate) fn page_end(directory: u32, strips: u32) -> u64 {
+/// How many bytes a file has whose last page has its directory at this offset, so many strips, and
+/// these bad rows.
+// ensures { result ≡ end_of_page directory strips bad }
+pub(crate) fn page_end(directory: u32, strips: u32, bad: Option<BadRows>) -> u64 {
     let arrays = if strips == 1 {
         0
     } else {
         8 * u64::from(strips)
     };
-    u64::from(directory) + u64::from(TO_STRIP_OFFSETS) + arrays
+    u64::from(directory) + u64::from(to_next_offset(bad) + LINK_TO_STRIP_OFFSETS) + arrays
 }
 
 /// How a page is laid out whose strips begin at `start` and end at `end`.
 // requires order { start ≤ end }
-// requires limit { end_of_page (end + end % 2) strips ≤ max_file }
-// ensures { IsLayout result strips start end number total }
-pub(crate) fn page_layout(strips: u32, start: u32, end: u32, number: u16, total: u16) -> Layout {
+// requires limit { end_of_page (end + end % 2) strips bad ≤ max_file }
+// ensures { IsLayout result strips start end number total bad }
+pub(crate) fn page_layout(
+    strips: u32,
+    start: u32,
+    end: u32,
+    number: u16,
+    total: u16,
+    bad: Option<BadRows>,
+) -> Layout {
     let directory = end + end % 2;
     let (offsets, byte_counts) = if strips == 1 {
         (start, end - start)
     } else {
-        let offsets = directory + TO_STRIP_OFFSETS;
+        let offsets = directory + to_next_offset(bad) + LINK_TO_STRIP_OFFSETS;
         (offsets, offsets + 4 * strips)
     };
     Layout {
@@ -307,6 +363,7 @@ pub(crate) fn page_layout(strips: u32, start: u32, end: u32, number: u16, total:
         strips,
         offsets,
         byte_counts,
+        bad,
     }
 }
 

@@ -36,6 +36,8 @@ pub enum Command {
     },
     /// Prints the rows that stand between their EOLs, and which are lost.
     Salvage,
+    /// Writes the pages that are left in another form, with white paper in place of lost rows.
+    SalvageFile(Options),
     /// Prints the version, and reads nothing.
     Version,
 }
@@ -113,7 +115,9 @@ usage: faxpages list [--cursor C] [--max N] [FILE]
 ";
 
 /// The usage of `salvage`.
-const SALVAGE_USAGE: &str = "usage: faxpages salvage [FILE]\n";
+const SALVAGE_USAGE: &str = "\
+usage: faxpages salvage [-o pbm|mh|mr|mmr [--order 1|2] [--k K] [--strip ROWS] [--align]] [FILE]
+";
 
 /// Whether words name `salvage`.
 // ensures { result ≡ names_salvage (texts words.now) }
@@ -222,24 +226,24 @@ fn number<'a>(alloc: Global, name: &'a str, parser: ValueParser<'a>) -> Arg<'a> 
     Arg::new(alloc, name).long(name).value_parser(parser)
 }
 
-/// The command that writes pages in another form, with the options that say how rows are coded.
-// ensures { IfOk result (λ c. IsApp c coding_app) }
-fn coding<'a>(alloc: Global) -> Result<clap::Command<'a>, AllocError> {
-    let target = Arg::new(alloc, "o").short('o').required(true);
-    clap::Command::new(alloc, "convert")
+/// A command that writes pages, with the options that say how rows are coded.
+// ensures { IfOk result (λ c. IsApp c (coding_app name.entry.now)) }
+fn coding<'a>(alloc: Global, name: &'a str) -> Result<clap::Command<'a>, AllocError> {
+    let target = Arg::new(alloc, "o").short('o');
+    clap::Command::new(alloc, name)
         .disable_help_flag(true)
         .arg(target)?
         .arg(number(alloc, "order", value_parser!(u32).range(1..=2)))?
         .arg(number(alloc, "k", value_parser!(u32).range(1..=MOST_ROWS)))
 }
 
-/// The command that writes pages in another form.
-// ensures { IfOk result (λ c. IsApp c convert_app) }
-fn converting<'a>(alloc: Global) -> Result<clap::Command<'a>, AllocError> {
+/// A command that writes pages in another form.
+// ensures { IfOk result (λ c. IsApp c (writing_app name.entry.now)) }
+fn writing<'a>(alloc: Global, name: &'a str) -> Result<clap::Command<'a>, AllocError> {
     let align = Arg::new(alloc, "align")
         .long("align")
         .action(ArgAction::SetTrue);
-    coding(alloc)?
+    coding(alloc, name)?
         .arg(number(alloc, "strip", value_parser!(u32).range(1..=MOST_ROWS)))?
         .arg(align)?
         .arg(Arg::new(alloc, "FILE"))
@@ -277,9 +281,9 @@ fn printers<'a>(alloc: Global) -> Result<clap::Command<'a>, AllocError> {
 // ensures { IfOk result (λ c. IsApp c faxpages_app) }
 fn command_line<'a>(alloc: Global) -> Result<clap::Command<'a>, AllocError> {
     printers(alloc)?
-        .subcommand(converting(alloc)?)?
+        .subcommand(writing(alloc, "convert")?)?
         .subcommand(checking(alloc)?)?
-        .subcommand(reading(alloc, "salvage")?)
+        .subcommand(writing(alloc, "salvage")?)
 }
 
 /// The file among the words after a command.
@@ -378,8 +382,8 @@ fn has_eols(target: Target) -> bool {
     }
 }
 
-/// How the words after `convert` want the pages, unless they name no target, or one that has no
-/// EOLs where these are to be aligned.
+/// How the words after a command want the pages written, unless they name no target, or one that
+/// has no EOLs where these are to be aligned.
 // requires { HasOptions (entries_of matches.now) }
 // ensures some { IfSome result (λ options.
 //     AreOptions (given_by (entries_of matches.now)) options) }
@@ -397,6 +401,31 @@ fn options_of(matches: &ArgMatches) -> Option<Options> {
         strip: matches.get_one::<u32>("strip"),
         aligned,
     })
+}
+
+/// Whether the words say how pages are to be written, but for the target.
+// requires { HasOptions (entries_of matches.now) }
+// ensures { result ≡ says_how (given_by (entries_of matches.now)) }
+fn have_options(matches: &ArgMatches) -> bool {
+    let order = matches.get_one::<u32>("order");
+    let k = matches.get_one::<u32>("k");
+    let strip = matches.get_one::<u32>("strip");
+    let aligned = matches.get_flag("align");
+    order.is_some() || k.is_some() || strip.is_some() || aligned
+}
+
+/// What the words after `salvage` ask for: the lines of what is left, where they say nothing of how
+/// pages are to be written, or the pages in a form.
+// requires { HasOptions (entries_of matches.now) }
+// ensures some { IfSome result (λ command.
+//     IsCommand (codes "salvage") (given_by (entries_of matches.now)) command) }
+// ensures cursors { IfSome result HasCursors }
+// ensures none { result ≡ None → IsNoUse (codes "salvage") (given_by (entries_of matches.now)) }
+fn salvage_of(matches: &ArgMatches) -> Option<Command> {
+    if matches.get_str("o").is_none() && !have_options(matches) {
+        return Some(Command::Salvage);
+    }
+    Some(Command::SalvageFile(options_of(matches)?))
 }
 
 /// Whether the words after `check` ask for what receivers counted.
@@ -424,7 +453,10 @@ fn command_of(alloc: Global, name: &str, matches: &ArgMatches) -> Result<Command
         "check" => Ok(Command::Check {
             received: ask_for_received(matches),
         }),
-        "salvage" => Ok(Command::Salvage),
+        "salvage" => match salvage_of(matches) {
+            Some(command) => Ok(command),
+            None => Err(WordsFault::Usage),
+        },
         _ => Err(WordsFault::Usage),
     }
 }
@@ -469,7 +501,8 @@ fn job_of(alloc: Global, words: &[&str]) -> Result<Job, WordsFault> {
 /// # Errors
 ///
 /// `Usage` where the words are not those of a command, a request for help included, nor ask for the
-/// version, or `-o` names no target, or `--align` meets one that has no EOLs. `NotACursor` where
+/// version, or `-o` names no target, or `--align` meets one that has no EOLs, or `salvage` has an
+/// option without `-o`. `NotACursor` where
 /// the words are those of a command, but for the text of `--cursor`. `Memory` where a growth was
 /// refused.
 // ensures job { IfOk result (λ job. IsJob (texts words.now) job) }

@@ -88,4 +88,38 @@ impl StripsWriter {
         }
         Ok(())
     }
+
+    /// Writes white rows next, up to so many, as far as their strip goes, and the strip where that
+    /// is whole then. Returns how many were written.
+    // requires some { 0 < most }
+    // requires upcoming { Spec.TakesWhiteRows self.old most }
+    // ensures some { IfOk result (λ count. 0 < count) }
+    // ensures few { IfOk result (λ count. count ≤ most) }
+    // ensures put { IfOk result (λ count. Spec.PutsWhiteRows self.old count self.new) }
+    fn put_white_part(&mut self, most: u32) -> Result<u32, Memory> {
+        let strip = self.done.len() as u32;
+        self.open_strip(strip)?;
+        let Some(writer) = &mut self.writer else {
+            unreachable!();
+        };
+        let end = ((strip + 1) * self.form.rows_per_strip).min(self.form.rows);
+        let count = most.min(end - self.rows);
+        writer.put_white_rows(count)?;
+        self.rows += count;
+        if self.rows == end {
+            self.end_strip()?;
+        }
+        Ok(count)
+    }
+
+    /// Writes so many white rows next, strip after strip, in time by the bytes that they become.
+    // requires { Spec.TakesWhiteRows self.old count }
+    // ensures { OnOk result (Spec.PutsWhiteRows self.old count self.new) }
+    pub(crate) fn put_white_rows(&mut self, count: u32) -> Result<(), Memory> {
+        let mut remaining = count;
+        while remaining > 0 {
+            remaining -= self.put_white_part(remaining)?;
+        }
+        Ok(())
+    }
 }

@@ -6,7 +6,7 @@ use crate::options::{ConvertFault, Options};
 use crate::page_size::PageSize;
 use crate::parts::SparseBytes;
 use fax_bits::Memory;
-use fax_files::{Coding, MAX_FILE, TiffWriter, WriteFault};
+use fax_files::{BadRows, Coding, MAX_FILE, TiffWriter, WriteFault};
 use fax_rows::Row;
 use kit_std::alloc::Global;
 
@@ -85,17 +85,32 @@ impl Output {
         }
     }
 
-    /// Ends the page, of which all rows were written.
+    /// Writes the page's next rows, so many that are white and have this width, in time by the
+    /// bytes
+    /// that they become.
+    // requires { Spec.TakesWhiteRows self.old width count }
+    // ensures { OnOk result (Spec.PutsWhiteRows self.old width count self.new) }
+    pub(crate) fn put_white_rows(&mut self, width: u32, count: u32) -> Result<(), Memory> {
+        match self {
+            Output::Images(parts) => parts.put_white_rows(width, count),
+            Output::File(_, _, Some(page)) => page.put_white_rows(count),
+            Output::File(_, _, None) => Ok(()),
+            Output::TooLarge => Ok(()),
+        }
+    }
+
+    /// Ends the page, of which all rows were written, and which says these bad rows, if any are
+    /// given.
     // requires { Spec.HasAllRows self.old }
-    // ensures { OnOk result (Spec.EndsPage self.old self.new) }
-    pub(crate) fn end(&mut self) -> Result<(), Memory> {
+    // ensures { OnOk result (Spec.EndsPage bad self.old self.new) }
+    pub(crate) fn end(&mut self, bad: Option<BadRows>) -> Result<(), Memory> {
         let Output::File(_, writer, open) = self else {
             return Ok(());
         };
         let Some(page) = open.take() else {
             return Ok(());
         };
-        match writer.add_page(&page.form, &page.done) {
+        match writer.add_page_with(&page.form, &page.done, bad) {
             Ok(()) => Ok(()),
             Err(WriteFault::Memory) => Err(Memory),
             Err(WriteFault::OutputTooLarge) => {

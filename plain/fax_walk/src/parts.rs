@@ -12,6 +12,15 @@ use kit_std::marker::Model;
 /// White rows of fewer bytes are held like others: a gap takes memory too.
 const LEAST_GAP: usize = 64;
 
+/// Pushes so many zeros.
+// requires { length bytes.old.items + zeros ≤ max_file }
+// ensures ok { OnOk result (bytes.new.items ≡ bytes.old.items ++ replicate zeros 0) }
+// ensures err { OnErr result (bytes.new.items ≡ bytes.old.items) }
+fn push_zeros(bytes: &mut Vec<u8>, zeros: usize) -> Result<(), Memory> {
+    let len = bytes.len() + zeros;
+    bytes.resize(len, 0).map_err(|_| Memory)
+}
+
 /// Zeros that are not held, after so many bytes that are.
 #[derive(Clone, Copy)]
 struct ZeroRun {
@@ -100,6 +109,18 @@ impl SparseBytes {
             return self.put_zeros(len);
         }
         put_pbm_row(&mut self.held, row)
+    }
+
+    /// Appends so many white rows of an image of this width. Many of them are not held.
+    // requires { length self.old + count * packed_len width ≤ max_file }
+    // ensures { OnOk result (self.new ≡ self.old
+    //     ++ flat_map packed_row (replicate count (white_row width))) }
+    pub(crate) fn put_white_rows(&mut self, width: u32, count: u32) -> Result<(), Memory> {
+        let zeros = count as usize * (width as usize).div_ceil(8);
+        if zeros >= LEAST_GAP && !self.held.is_empty() {
+            return self.put_zeros(zeros);
+        }
+        push_zeros(&mut self.held, zeros)
     }
 
     /// All bytes.

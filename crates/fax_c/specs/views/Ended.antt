@@ -2,7 +2,7 @@
 -- definition without a citation is this project's profile.
 use Rattle.std.specs.Prelude.{◌≡◌, ℕ, ◌<◌, ◌≤◌, ◌⊎◌, List, [], ◌∷◌, ◌++◌, length, take, drop}
 use Rattle.fax_files.specs.Directory.{max_file}
-use Rattle.fax_files.specs.Layout.{WrittenPage, file_of, with_pages}
+use Rattle.fax_files.specs.Layout.{WrittenPage, file_of, page_of, with_pages}
 use Rattle.fax_files.specs.views.Writing.{ArePagesAfter, with_totals}
 use Rattle.fax_files.specs.declared.PageForm.{PageForm}
 use Rattle.fax_files.specs.views.Writing.{empty_file}
@@ -48,10 +48,8 @@ abbrev pub AddsToPages : AskedRaster FaxForm → List ℕ → List ℕ → FaxWr
 AddsToPages asked old_file file old written status =
     (pages : List WrittenPage) → IsFileSoFar old.total pages old old_file → status ≡ 0
     → (form : PageForm) × IsFormGiven asked.form form
-    × IsFileSoFar old.total (pages ++ record {
-      form = form;
-      strips = page_strips form asked.k asked.stride asked.raster;
-    } ∷ []) written file
+    × IsFileSoFar old.total
+    (pages ++ page_of form (page_strips form asked.k asked.stride asked.raster) ∷ []) written file
 
 -- such a file, whatever each page said, is then the file of these pages
 abbrev pub EndsWholeFile : List ℕ → List ℕ → FaxWritten → ℕ → Type 0

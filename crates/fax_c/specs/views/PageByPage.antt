@@ -5,7 +5,7 @@ use Rattle.std.specs.Prelude.{◌++◌, length, take, drop}
 use Rattle.fax_files.specs.declared.PageForm.{PageForm}
 use Rattle.fax_files.specs.declared.Endian.TheVariants.{Little}
 use Rattle.fax_files.specs.Directory.{max_file, number_at}
-use Rattle.fax_files.specs.Layout.{Written, with_page}
+use Rattle.fax_files.specs.Layout.{Written, page_of, with_page}
 use Rattle.fax_files.specs.views.Page.{IsPageForm}
 use Rattle.fax_files.specs.views.Writing.{empty_file}
 use Rattle.fax_c.specs.declared.forms.FaxForm.{FaxForm}
@@ -47,8 +47,8 @@ file_so_far written file =
 -- the file with one page more, whose rows are those of a raster
 abbrev pub with_raster : AskedRaster PageForm → FaxWritten → List ℕ → Written
 with_raster asked written file =
-    with_page (file_so_far written file) written.total written.added asked.form
-    (page_strips asked.form asked.k asked.stride asked.raster)
+    with_page (file_so_far written file) written.total written.added
+    (page_of asked.form (page_strips asked.form asked.k asked.stride asked.raster))
 
 -- a page is added to a file in memory of the caller, and nothing after it is changed; or the file
 -- with it has no room there, or is too large, or memory was refused, and nothing is changed

@@ -1,8 +1,8 @@
 -- The parts of a written page, as the code puts them one after the other.
-use Rattle.std.specs.Prelude.{ℕ, ◌+◌, ◌*◌, List, ◌++◌, length, map, take, drop, flat_map}
+use Rattle.std.specs.Prelude.{ℕ, ◌+◌, ◌*◌, List, ◌++◌, length, map, take, drop, flat_map, Option}
 use Rattle.fax_files.specs.Page.{PageForm}
 use Rattle.fax_files.specs.Layout.{two, four, WrittenField, field_of, field_bytes, array_bytes}
-use Rattle.fax_files.specs.Layout.{to_link, one_or_offset, fields_with}
+use Rattle.fax_files.specs.Layout.{BadRows, to_link, one_or_offset, fields_with}
 use Rattle.fax_files.specs.declared.tags.TheConstants as Tags
 
 -- one SHORT, which stands left in the value's four bytes
@@ -29,28 +29,24 @@ joined_strips strips = flat_map (λ strip. strip) strips
 abbrev pub longs : List ℕ → List ℕ
 longs numbers = flat_map four numbers
 
--- the number of fields of a directory that is written
-abbrev pub field_count : ℕ
-field_count = 16
-
 -- how far after a directory's offset stand XResolution, YResolution, and the strips' offsets where
 -- there are more than one
-abbrev pub to_x : ℕ
-to_x = to_link + 4
+abbrev pub to_x : Option BadRows → ℕ
+to_x bad = to_link bad + 4
 
-abbrev pub to_y : ℕ
-to_y = to_x + 8
+abbrev pub to_y : Option BadRows → ℕ
+to_y bad = to_link bad + 12
 
-abbrev pub to_offsets : ℕ
-to_offsets = to_y + 8
+abbrev pub to_offsets : Option BadRows → ℕ
+to_offsets bad = to_link bad + 20
 
 -- the fields of the directory at q of page k of `total`, of which the strips have these offsets and
 -- lengths
-abbrev pub fields_of : ℕ → ℕ → ℕ → PageForm → List ℕ → List ℕ → List WrittenField
-fields_of q total k form offsets lengths =
-    let offsets_offset = q + to_offsets in
+abbrev pub fields_of : ℕ → ℕ → ℕ → PageForm → Option BadRows → List ℕ → List ℕ → List WrittenField
+fields_of q total k form bad offsets lengths =
+    let offsets_offset = q + to_offsets bad in
     let lengths_offset = offsets_offset + 4 * length lengths in
-    fields_with q total k form
+    fields_with q total k form bad
     (long_field Tags.STRIP_OFFSETS (length offsets) (one_or_offset offsets offsets_offset))
     (long_field Tags.STRIP_BYTE_COUNTS (length lengths) (one_or_offset lengths lengths_offset))
 

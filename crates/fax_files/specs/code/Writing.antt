@@ -1,12 +1,12 @@
 -- A file that is being written, as the contracts see it.
 use Rattle.std.specs.Prelude.{◌≡◌, ◌≤◌, ℕ, ◌+◌, ◌-◌, ◌*◌, ◌%◌, ◌==◌, if◌then◌else◌, List}
-use Rattle.std.specs.Prelude.{◌++◌, length, replicate}
+use Rattle.std.specs.Prelude.{◌++◌, length, replicate, Option}
 use Rattle.fax_files.specs.declared.PageForm.{PageForm}
 use Rattle.fax_files.specs.declared.written.Layout.{Layout}
 use Rattle.fax_files.specs.declared.tags.TheConstants as Tags
 use Rattle.fax_files.specs.Layout.{four}
 use Rattle.fax_files.specs.code.PageParts.{to_offsets, long_field}
-use Rattle.fax_files.specs.Layout.{WrittenField, WrittenPage, fields_with}
+use Rattle.fax_files.specs.Layout.{BadRows, WrittenField, WrittenPage, fields_with}
 use Rattle.fax_files.specs.views.PagesSoFar.{HasAdded}
 use Rattle.fax_files.specs.views.Writing.{Writing}
 use Rattle.fax_files.specs.Layout.{offsets_from}
@@ -16,7 +16,7 @@ use Rattle.fax_files.specs.Directory.{max_file}
 -- the fields of a page where it is laid out so
 abbrev pub laid_out_fields : Layout → PageForm → List WrittenField
 laid_out_fields at form =
-    fields_with at.directory at.total at.number form
+    fields_with at.directory at.total at.number form at.bad
     (long_field Tags.STRIP_OFFSETS at.strips at.offsets)
     (long_field Tags.STRIP_BYTE_COUNTS at.strips at.byte_counts)
 
@@ -36,16 +36,20 @@ pub record IsWriting (writing : Writing) : Type 0 where
   pub header : 8 ≤ length writing.written.bytes
   pub limit : length writing.written.bytes ≤ max_file
 
--- how many bytes a file has whose last page has its directory at this offset, and so many strips
-abbrev pub page_end : ℕ → ℕ → ℕ
-page_end directory strips = directory + to_offsets + (if strips == 1 then 0 else (8 * strips))
+-- how many bytes a file has whose last page has its directory at this offset, so many strips, and
+-- these bad rows
+abbrev pub page_end : ℕ → ℕ → Option BadRows → ℕ
+page_end directory strips bad =
+    directory + to_offsets bad + (if strips == 1 then 0 else (8 * strips))
 
 -- a page whose strips begin at `start` and end at `end` is laid out so
-pub record IsLayout (at : Layout) (strips start end number total : ℕ) : Type 0 where
+pub record IsLayout (at : Layout) (strips start end number total : ℕ) (bad : Option BadRows)
+    : Type 0 where
   pub total_is : at.total ≡ total
   pub number_is : at.number ≡ number
   pub directory_is : at.directory ≡ end + end % 2
   pub strips_are : at.strips ≡ strips
-  pub offsets_are : at.offsets ≡ (if strips == 1 then start else (at.directory + to_offsets))
+  pub bad_are : at.bad ≡ bad
+  pub offsets_are : at.offsets ≡ (if strips == 1 then start else (at.directory + to_offsets bad))
   pub byte_counts_are : at.byte_counts
-      ≡ (if strips == 1 then (end - start) else (at.directory + to_offsets + 4 * strips))
+      ≡ (if strips == 1 then (end - start) else (at.directory + to_offsets bad + 4 * strips))

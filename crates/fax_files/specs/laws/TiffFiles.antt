@@ -23,14 +23,15 @@ use Rattle.fax_files.specs.Directory.{ChainRead, Header, header, is_directory, m
 use Rattle.fax_files.specs.Directory.{next_offset, number_at, read_chain}
 use Rattle.fax_files.specs.views.Page.{IsPageForm}
 use Rattle.fax_files.specs.Layout.{four, directory_offset, Written, with_page, WrittenPage, file_of}
-use Rattle.fax_files.specs.Layout.{with_pages}
+use Rattle.fax_files.specs.Layout.{BadRows, with_pages}
+use Rattle.fax_files.specs.BadRows.{Received, received}
 use Rattle.fax_files.specs.views.Writing.{empty_file}
 use Rattle.std.specs.Prelude.{◌≡◌, ◌≤◌, ℕ, ◌+◌, ◌*◌, if◌then◌else◌, List, [], ◌∷◌}
-use Rattle.std.specs.Prelude.{◌++◌, length, Vec}
-use Rattle.std.specs.declared.alloc.Global.{Global}
+use Rattle.std.specs.Prelude.{◌++◌, length}
+use Rattle.std.specs.Option.{ForSome}
 use Rattle.fax_files.specs.views.Writing.{ArePagesAfter, with_totals}
 use Rattle.fax_files.specs.views.PagesSoFar.{HasAdded}
-use Rattle.fax_files.specs.views.Writing.{Writing, contents, with_one_more}
+use Rattle.fax_files.specs.views.Writing.{Writing, with_one_more}
 
 -- From strip s on the page has these strips, each a list of rows. The end is none after the last
 -- strip, else StripOutside at a strip's first row or the cause at the row of a strip that is not
@@ -64,23 +65,36 @@ pub record ArePageRows (endian : Endian) (file : List ℕ) (q : ℕ) (form : Pag
   pub read : AreStrips endian file q form 0 strips end
   pub rows_are : rows ≡ shown form (joined strips)
 
+-- what a page says that is written so: others stand in the places of its bad rows
+-- (RFC 2306, CleanFaxData)
+abbrev pub said : Option BadRows → Received
+said None = record { bad_rows = None; clean = None; consecutive = None }
+said (Some bad) = record {
+  bad_rows = Some bad.count;
+  clean = Some 1;
+  consecutive = Some bad.consecutive;
+}
+
 -- a page that can be written: a form within the limits, of which white is 0, with the bytes of each
--- strip
+-- strip, and bad rows whose numbers have 32 bits
 pub record IsWritable (written : WrittenPage) : Type 0 where
   pub limits : IsPageForm written.form
   pub exchanged : written.form.exchanged ≡ false
   pub strips : length written.strips ≡ written.form.strips
+  pub bad : ForSome written.bad (λ bad. (bad.count < 2 ^ 32) × (bad.consecutive < 2 ^ 32))
 
 -- pages that can be written
 abbrev pub AreWritable : List WrittenPage → Type 0
 AreWritable [] = Unit {0}
 AreWritable (written ∷ pages) = IsWritable written × AreWritable pages
 
--- the page whose directory stands at q is read as this one: its form, and the bytes of each strip
+-- the page whose directory stands at q is read as this one: its form, the bytes of each strip, and
+-- its bad rows
 pub record IsReadAt (file : List ℕ) (q : ℕ) (written : WrittenPage) : Type 0 where
   pub form : page Little file q ≡ Ok written.form
   pub strips : (s : ℕ) → s < written.form.strips
       → strip_bytes Little file q s ≡ Some (slice_index_or written.strips s [])
+  pub bad : received Little file q ≡ said written.bad
 
 -- the rows of strips from strip s on, where each strip's bytes hold all of its rows
 abbrev pub HoldStripRows : PageForm → ℕ → List (List ℕ) → List (List (List Colour)) → Type 0
@@ -119,8 +133,8 @@ pub record IsAppended (old new : Written) (q : ℕ) (written : WrittenPage) : Ty
 abbrev pub AppendedPagesAreRead : Type 0
 AppendedPagesAreRead =
     (old : Written) (total k : ℕ) (written : WrittenPage) → IsOpen old → IsWritable written
-    → length (with_page old total k written.form written.strips).bytes ≤ max_file
-    → IsAppended old (with_page old total k written.form written.strips)
+    → length (with_page old total k written).bytes ≤ max_file
+    → IsAppended old (with_page old total k written)
     (directory_offset (length old.bytes) written.strips) written
 
 -- a file is read as these pages: its chain is the pages' directories and ends properly
@@ -206,10 +220,9 @@ pub record TotalsAreTold : Type 0 where
 pub record WritesPageByPage : Type 0 where
   pub begins : (total : ℕ)
       → HasAdded total [] (record { written = empty_file; total = total; added = 0 })
-  pub goes_on : (total : ℕ) (pages : List WrittenPage) (old : Writing) (form : PageForm)
-      (strips : List (Vec ℕ Global)) → HasAdded total pages old
-      → HasAdded total (pages ++ record { form = form; strips = contents strips } ∷ [])
-      (with_one_more old form strips)
+  pub goes_on : (total : ℕ) (pages : List WrittenPage) (old : Writing) (page : WrittenPage)
+      → HasAdded total pages old
+      → HasAdded total (pages ++ page ∷ []) (with_one_more old page)
   pub finishes : (total : ℕ) (pages : List WrittenPage) (writing : Writing)
       → HasAdded total pages writing → writing.added ≡ writing.total
       → writing.written.bytes ≡ file_of pages

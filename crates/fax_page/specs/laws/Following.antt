@@ -6,7 +6,7 @@ use Rattle.fax_page.specs.declared.StripFault.TheVariants.{DataEnds, EndMarker}
 use Rattle.fax_page.specs.Lines.{Coding, IsCause, IsLine, StripFault, StripForm}
 use Rattle.fax_page.specs.Uncounted.{Fault, Marked, has_data_end, has_end_mark, rows_end}
 use Rattle.fax_page.specs.laws.Lines.{AreLines}
-use Rattle.fax_page.specs.laws.Writer.{last_of}
+use Rattle.fax_page.specs.views.Writer.{last_of}
 
 -- row i of a strip is the same row, whatever follows the bits; and the fault in its way is the same
 -- one, but where it is that the data end

@@ -4,12 +4,8 @@ use Rattle.fax_bits.specs.declared.Colour.{Colour}
 use Rattle.fax_page.specs.declared.StripForm.{StripForm}
 use Rattle.fax_page.specs.Strip.{coded_lines, coded_strip}
 use Rattle.fax_page.specs.Lines.{white_row}
-use Rattle.fax_page.specs.views.Writer.{FinishesAs, PutsRow, WriterState, writer_beginning}
-
--- the last of the rows, or the reference where there is none
-abbrev pub last_of : List Colour → List (List Colour) → List Colour
-last_of reference [] = reference
-last_of reference (row ∷ rows) = last_of row rows
+use Rattle.fax_page.specs.views.Writer.{FinishesAs, PutsRow, PutsRows, WriterState}
+use Rattle.fax_page.specs.views.Writer.{last_of, writer_beginning}
 
 -- these rows were put, and no more
 abbrev pub HasPut : StripForm → ℕ → List (List Colour) → WriterState → Type 0
@@ -30,6 +26,9 @@ pub record WritesRowByRow : Type 0 where
   pub goes_on : (form : StripForm) (k : ℕ) (rows : List (List Colour)) (row : List Colour)
       (old new : WriterState)
       → HasPut form k rows old → PutsRow old row new → HasPut form k (rows ++ row ∷ []) new
+  pub goes_on_by_rows : (form : StripForm) (k : ℕ) (rows more : List (List Colour))
+      (old new : WriterState)
+      → HasPut form k rows old → PutsRows old more new → HasPut form k (rows ++ more) new
   pub finishes : (form : StripForm) (k : ℕ) (rows : List (List Colour)) (writer : WriterState)
       (bytes : List ℕ)
       → HasPut form k rows writer → FinishesAs writer bytes → bytes ≡ coded_strip form k rows

@@ -11,7 +11,7 @@ use Rattle.clap.specs.declared.builder.command.Command.TheViews.{out-Command}
 use Rattle.clap.specs.declared.parser.matches.ArgMatches.{ArgMatches}
 use Rattle.fax_files.specs.Page.{most_rows}
 use Rattle.fax_tool.specs.Grammar.{IsNumberText, most_lines}
-use Rattle.fax_tool.specs.Job.{Given, HasNoCursor, HasNoTarget}
+use Rattle.fax_tool.specs.Job.{Given, HasNoCursor, IsNoUse}
 use Rattle.fax_tool.specs.declared.args.WordsFault.{WordsFault}
 use Rattle.fax_tool.specs.declared.args.WordsFault.TheVariants.{Memory, NotACursor, Usage}
 use Rattle.fax_tool.specs.Text.{Cursor}
@@ -41,7 +41,7 @@ HasFlag name entries = (one_of name entries ≡ first_of name entries)
     × ((first_of name entries ≡ None) ⊎ (first_of name entries ≡ Some (codes "true"))
     ⊎ (first_of name entries ≡ Some (codes "false")))
 
--- the numbers of `convert` are in their ranges
+-- the numbers of a command that writes pages are in their ranges
 pub record HasOptions (entries : List Row) : Type 0 where
   pub order : HasNumber (codes "order") 2 entries
   pub k : HasNumber (codes "k") most_rows entries
@@ -55,6 +55,7 @@ pub record HasEntries (name : Text) (entries : List Row) : Type 0 where
       → HasNumber (codes "max") most_lines entries × HasFlag (codes "long") entries
   pub convert : bytes_eq name (codes "convert") ≡ true → HasOptions entries
   pub check : bytes_eq name (codes "check") ≡ true → HasFlag (codes "received") entries
+  pub salvage : bytes_eq name (codes "salvage") ≡ true → HasOptions entries
   pub known : (bytes_eq name (codes "list") || (bytes_eq name (codes "rows")
       || (bytes_eq name (codes "convert") || (bytes_eq name (codes "check")
       || bytes_eq name (codes "salvage"))))) ≡ true
@@ -68,6 +69,6 @@ IsNoLongCursor text = (place : LongCursorValue) → IsLongCursor place → text 
 
 -- a command's name and what is given after it give no command, but this fault
 abbrev pub IsCommandFault : Text → Given → WordsFault → Type 0
-IsCommandFault name given Usage = (name ≡ codes "convert") × HasNoTarget given
+IsCommandFault name given Usage = IsNoUse name given
 IsCommandFault name given NotACursor = HasNoCursor name given
 IsCommandFault name given Memory = Unit {0}

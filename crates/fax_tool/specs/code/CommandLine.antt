@@ -31,7 +31,7 @@ flag_rule name = record (new_rule name) { long = Some name; action = Some SetTru
 
 -- `-o TARGET`
 abbrev pub target_rule : Rule
-target_rule = record (new_rule (codes "o")) { short = Some 111; required = true }
+target_rule = record (new_rule (codes "o")) { short = Some 111 }
 
 -- a command that has no help
 abbrev pub bare_app : Text → App
@@ -45,14 +45,14 @@ printing_app name = with_rule (with_rule (with_rule (bare_app name)
 abbrev pub rows_app : App
 rows_app = with_rule (printing_app (codes "rows")) (flag_rule (codes "long"))
 
--- `convert` with the options that say how rows are coded
-abbrev pub coding_app : App
-coding_app = with_rule (with_rule (with_rule (bare_app (codes "convert")) target_rule)
+-- a command that writes pages, with the options that say how rows are coded
+abbrev pub coding_app : Text → App
+coding_app name = with_rule (with_rule (with_rule (bare_app name) target_rule)
     (number_rule (codes "order") 2)) (number_rule (codes "k") most_rows)
 
-abbrev pub convert_app : App
-convert_app = with_rule (with_rule (with_rule coding_app (number_rule (codes "strip") most_rows))
-    (flag_rule (codes "align"))) file_rule
+abbrev pub writing_app : Text → App
+writing_app name = with_rule (with_rule (with_rule (coding_app name)
+    (number_rule (codes "strip") most_rows)) (flag_rule (codes "align"))) file_rule
 
 -- a command whose words name a file alone
 abbrev pub file_app : Text → App
@@ -73,5 +73,5 @@ printers_app = with_subcommand (with_subcommand
 
 -- the program: one of five commands
 abbrev pub faxpages_app : App
-faxpages_app = with_subcommand (with_subcommand (with_subcommand printers_app convert_app.top)
-    check_app.top) (file_app (codes "salvage")).top
+faxpages_app = with_subcommand (with_subcommand (with_subcommand printers_app
+    (writing_app (codes "convert")).top) check_app.top) (writing_app (codes "salvage")).top

@@ -1,7 +1,10 @@
--- Steps of printing what is left of a file, line by line.
+-- Steps of writing what is left of a file, line by line or as a file.
 use Rattle.std.specs.Prelude.{◌≡◌, ℕ, ◌+◌, ◌≤◌, List, ◌++◌, flat_map, length, take, Some, Result}
-use Rattle.std.specs.Prelude.{Ok, Err, slice_get, true, false, Bool}
+use Rattle.std.specs.Prelude.{Ok, Err, [], slice_get, true, false, unwrap_or, Bool}
 use Rattle.fax_bits.specs.declared.Memory.{Memory as NoMemory}
+use Rattle.fax_tool.specs.Text.{Printed}
+use Rattle.fax_tool.specs.code.Outcome.{error_of, status_of}
+use Rattle.fax_tool.specs.declared.commands.salvage_file.SalvagedOutput.{SalvagedOutput}
 
 -- the texts of lines, one after another
 abbrev pub texts_of : List (List ℕ) → List ℕ
@@ -30,3 +33,11 @@ abbrev pub IsFrontOf : (List (List ℕ) → Type 0) → List ℕ → Type 0
 IsFrontOf are text =
     (lines : List (List ℕ)) × are lines × (count : ℕ) × (count ≤ length lines)
     × (text ≡ texts_of (take count lines))
+
+-- what is said of a damaged file of which this is to be written
+abbrev pub said_of : SalvagedOutput → Printed
+said_of salvaged = record {
+  output = unwrap_or salvaged.output [];
+  error = error_of salvaged.line;
+  status = status_of salvaged.line;
+}

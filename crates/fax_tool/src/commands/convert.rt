@@ -21,7 +21,7 @@ use fax_walk::{ConvertFault, ImageConversion, Options, Part, SparseBytes};
 use std::alloc::Global;
 
 /// How many zeros are written at once.
-const BLOCK: usize = 65_536;
+pub(crate) const BLOCK: usize = 65_536;
 
 /// Writes so many zeros, from a block of them.
 fn give_zeros<W: Sink>(
@@ -68,7 +68,11 @@ fn give_part<W: Sink>(
 }
 
 /// Writes an output part by part, with zeros from a block.
-fn write_parts<W: Sink>(out: &mut W, block: &[u8], output: &SparseBytes) -> Result<(), Refusal>
+pub(crate) fn write_parts<W: Sink>(
+    out: &mut W,
+    block: &[u8],
+    output: &SparseBytes,
+) -> Result<(), Refusal>
     requires block { block.now ≡ replicate (length block.now) 0 }
     requires some { 0 < length block.now }
     requires counts { W.counts out.old ≡ no_faults }

@@ -155,7 +155,7 @@ fn pass_row(walk: &mut Walk<'_>) -> Result<Option<End>, Memory>
 }
 
 /// How the rows of a file end: properly where it is known that nothing is lost.
-fn end_of_walk(alloc: Global, file: &[u8], is_whole: bool) -> Result<End, Memory>
+pub(crate) fn end_of_walk(alloc: Global, file: &[u8], is_whole: bool) -> Result<End, Memory>
     requires { is_whole ≡ true → (rows : List RowItem) × AreItems file.now rows EndOfPages }
     ensures { IfOk result (λ end.
         (rows : List RowItem) × AreItems file.now rows end) }

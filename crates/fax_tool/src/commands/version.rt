@@ -11,7 +11,7 @@ use crate::streams::Sink;
 use crate::streams::transfer::{RetryCount, write_all};
 
 /// The program's name and the version, which is that of the file `VERSION`.
-const VERSION_TEXT: &str = "faxpages 1.14.0\n";
+const VERSION_TEXT: &str = "faxpages 1.15.0\n";
 
 /// Writes the version.
 pub fn version<W: Sink>(out: &mut W) -> Result<(), Refusal>

@@ -2,7 +2,7 @@
 ghost use Rattle.std.specs.Prelude.{◌≡◌, ◌≤◌, IfOk, length};
 ghost use Rattle.fax_tool.specs.Text.{fault_line};
 ghost use Rattle.fax_tool.specs.ReportText.{convert_fault_line};
-ghost use Rattle.fax_walk.specs.declared.options.ConvertFault.TheVariants.{Pbm};
+ghost use Rattle.fax_walk.specs.declared.options.ConvertFault.TheVariants.{OutputTooLarge, Pbm};
 ghost use Rattle.fax_tool.specs.code.Outcome as Spec;
 
 use crate::text::push_number;
@@ -72,6 +72,13 @@ fn fixed_line(line: &'static str) -> ErrorLine
     ErrorLine { text }
 }
 
+/// The line of an output that is too large.
+pub fn too_large_line() -> ErrorLine
+    ensures { result ≡ convert_fault_line OutputTooLarge }
+{
+    fixed_line("fault: OutputTooLarge\n")
+}
+
 impl ErrorLine {
     /// The bytes.
     pub fn as_bytes(&self) -> &[u8]
@@ -100,7 +107,7 @@ pub fn conversion_line(fault: ConvertFault) -> Result<ErrorLine, Memory>
         ConvertFault::UnknownInput => Ok(fixed_line("fault: UnknownInput\n")),
         ConvertFault::Pbm { image, fault } => Ok(image_line(image, fault)),
         ConvertFault::Source { page, row, cause } => Ok(row_fault_line(page, row, cause)),
-        ConvertFault::OutputTooLarge => Ok(fixed_line("fault: OutputTooLarge\n")),
+        ConvertFault::OutputTooLarge => Ok(too_large_line()),
         ConvertFault::Memory => Err(Memory),
     }
 }

@@ -1,11 +1,13 @@
 -- How far an output is written.
 use Rattle.std.specs.Prelude.{◌≡◌, ℕ, ◌+◌, ◌*◌, ◌<◌, ◌≤◌, min, false, List, [], ◌∷◌, ◌++◌, length}
-use Rattle.std.specs.Prelude.{map, flat_map, Option, Some, None, unwrap_or}
+use Rattle.std.specs.Prelude.{map, flat_map, replicate, Option, Some, None, unwrap_or}
 use Rattle.fax_bits.specs.declared.Colour.{Colour}
 use Rattle.fax_rows.specs.Coded.{packed_len, packed_row}
 use Rattle.fax_page.specs.declared.Coding.{Coding}
+use Rattle.fax_page.specs.Lines.{white_row}
 use Rattle.fax_files.specs.declared.PageForm.{PageForm}
 use Rattle.fax_files.specs.views.Page.{IsGoodRational, strip_count}
+use Rattle.fax_files.specs.declared.bad_rows.BadRows.{BadRows}
 use Rattle.fax_files.specs.Pbm.{pbm_of}
 use Rattle.fax_files.specs.views.Pbm.{head_bytes}
 use Rattle.fax_files.specs.laws.Pbm.{AreOfWidth}
@@ -63,11 +65,12 @@ sheet_form options coding sheet =
       unit = sheet.unit;
     }
 
--- the page of a sheet with these rows
-abbrev pub page_of : PageSize → List (List Colour) → SourcePage
-page_of sheet rows = record {
+-- the page of a sheet with these rows, and these bad rows where some are to be said
+abbrev pub page_of : PageSize → List (List Colour) → Option BadRows → SourcePage
+page_of sheet rows bad = record {
   image = record { width = sheet.width; rows = rows };
   resolution = record { x = sheet.x; y = sheet.y; unit = sheet.unit };
+  bad = bad;
 }
 
 -- before the first page
@@ -92,9 +95,13 @@ no_rows at sheet = record { at = at; sheet = sheet; rows = [] }
 abbrev pub with_row : Part → List Colour → Part
 with_row part row = record part { rows = part.rows ++ row ∷ [] }
 
--- after the page
-abbrev pub after : Part → Progress
-after part = with_source_page part.at (page_of part.sheet part.rows)
+-- with more rows
+abbrev pub with_rows : Part → List (List Colour) → Part
+with_rows part rows = record part { rows = part.rows ++ rows }
+
+-- after the page, of which these bad rows are said
+abbrev pub after : Part → Option BadRows → Progress
+after part bad = with_source_page part.at (page_of part.sheet part.rows bad)
 
 -- these pages are written by these options
 pub record IsUpcomingPage (options : Options) (output : Output) (at : Progress) : Type 0 where
@@ -119,11 +126,13 @@ HasRowsOnPage coding writer (Some page) part =
     HasPages coding writer part.at × (length part.at.pages < most_pages)
     × HasPutRows (sheet_form part.at.options coding part.sheet) part.at.options.k part.rows page
 
--- a page of this sheet makes the output too large, whatever rows it has and whatever follows it
+-- a page of this sheet makes the output too large, whatever rows it has, whatever is said of them
+-- and whatever follows it
 abbrev pub BecomesTooLarge : Part → Type 0
 BecomesTooLarge part =
-    (rows : List (List Colour)) → length rows ≡ part.sheet.rows → AreOfWidth part.sheet.width rows
-    → StaysTooLarge (with_source_page part.at (page_of part.sheet rows))
+    (rows : List (List Colour)) (bad : Option BadRows) → length rows ≡ part.sheet.rows
+    → AreOfWidth part.sheet.width rows
+    → StaysTooLarge (with_source_page part.at (page_of part.sheet rows bad))
 
 abbrev pub HasPart : Output → Part → Type 0
 HasPart (Images bytes) part = HasImageRows bytes part
@@ -158,24 +167,38 @@ PutsRow old row new =
     → length row ≡ part.sheet.width
     → IsPartWritten new (with_row part row)
 
+-- so many white rows of this width can be put: they are expected
+pub record TakesWhiteRows (output : Output) (width count : ℕ) : Type 0 where
+  pub part : Part
+  pub written : IsPartWritten output part
+  pub upcoming : length part.rows + count ≤ part.sheet.rows
+  pub width_is : width ≡ part.sheet.width
+
+-- they are put
+abbrev pub PutsWhiteRows : Output → ℕ → ℕ → Output → Type 0
+PutsWhiteRows old width count new =
+    (part : Part) → IsPartWritten old part → length part.rows + count ≤ part.sheet.rows
+    → width ≡ part.sheet.width
+    → IsPartWritten new (with_rows part (replicate count (white_row width)))
+
 -- all rows of the page were put
 pub record HasAllRows (output : Output) : Type 0 where
   pub part : Part
   pub written : IsPartWritten output part
   pub all : length part.rows ≡ part.sheet.rows
 
--- the page is ended
-abbrev pub EndsPage : Output → Output → Type 0
-EndsPage old new =
+-- the page is ended, and these bad rows are said of it
+abbrev pub EndsPage : Option BadRows → Output → Output → Type 0
+EndsPage bad old new =
     (part : Part) → IsPartWritten old part → length part.rows ≡ part.sheet.rows
-    → IsWrittenTo new (after part)
+    → IsWrittenTo new (after part bad)
 
 -- these rows of a page were put after some pages: where there are none it is not started, and where
 -- they are all it is ended
 pub record IsPutTo (output : Output) (part : Part) : Type 0 where
   pub none : length part.rows ≡ 0 → IsWrittenTo output part.at
   pub some : 0 < length part.rows → length part.rows < part.sheet.rows → IsPartWritten output part
-  pub all : length part.rows ≡ part.sheet.rows → IsWrittenTo output (after part)
+  pub all : length part.rows ≡ part.sheet.rows → IsWrittenTo output (after part None)
 
 -- row number r of a page can be put after the others, by these options
 pub record IsUpcomingRow (options : Options) (output : Output) (r : ℕ) (row : List Colour)

@@ -1,9 +1,10 @@
 -- The strips of a page that is being written.
-use Rattle.std.specs.Prelude.{◌≡◌, ℕ, ◌*◌, ◌<◌, ◌≤◌, min, List, [], ◌∷◌, ◌++◌, length, drop, Option}
-use Rattle.std.specs.Prelude.{Some, None, map, take, Vec}
+use Rattle.std.specs.Prelude.{◌≡◌, ℕ, ◌+◌, ◌*◌, ◌<◌, ◌≤◌, min, List, [], ◌∷◌, ◌++◌, length, drop}
+use Rattle.std.specs.Prelude.{Option, Some, None, map, take, replicate, Vec}
 use Rattle.std.specs.List.{range_with_len}
 use Rattle.std.specs.declared.alloc.Global.{Global}
 use Rattle.fax_bits.specs.declared.Colour.{Colour}
+use Rattle.fax_page.specs.Lines.{white_row}
 use Rattle.fax_page.specs.Strip.{coded_strip}
 use Rattle.fax_page.specs.declared.StripForm.{StripForm}
 use Rattle.fax_page.specs.views.Writer.{FinishesAs, WriterState, writer_beginning}
@@ -96,3 +97,18 @@ PutsRow old row new =
     (form : PageForm) (k : ℕ) (rows : List (List Colour)) → HasPutRows form k rows old
     → length rows < form.rows
     → HasPutRows form k (rows ++ row ∷ []) new
+
+-- so many white rows can be put on a page
+pub record TakesWhiteRows (page : StripsWriter) (count : ℕ) : Type 0 where
+  pub form : PageForm
+  pub k : ℕ
+  pub rows : List (List Colour)
+  pub put : HasPutRows form k rows page
+  pub upcoming : length rows + count ≤ form.rows
+
+-- so many white rows were put after those that were
+abbrev pub PutsWhiteRows : StripsWriter → ℕ → StripsWriter → Type 0
+PutsWhiteRows old count new =
+    (form : PageForm) (k : ℕ) (rows : List (List Colour)) → HasPutRows form k rows old
+    → length rows + count ≤ form.rows
+    → HasPutRows form k (rows ++ replicate count (white_row form.width)) new

@@ -1,6 +1,7 @@
 -- Laws of written files, which the functions of the module `laws` prove.
 -- A definition without a citation is this project's profile.
-use Rattle.std.specs.Prelude.{◌≡◌, ◌≢◌, ℕ, ◌+◌, ◌<◌, ◌≤◌, true, List, [], ◌∷◌, ◌++◌, length, map}
+use Rattle.std.specs.Prelude.{◌≡◌, ◌≢◌, ℕ, ◌+◌, ◌^◌, ◌<◌, ◌≤◌, true, List, [], ◌∷◌, ◌++◌, length}
+use Rattle.std.specs.Prelude.{map}
 use Rattle.std.specs.Prelude.{All}
 use Rattle.std.specs.List.{AllZip}
 use Rattle.std.specs.Option.{ForSome}
@@ -68,13 +69,16 @@ WrittenFilesAreWalked =
     → AreWritable pages → AllZip HoldsPageRows pages rows → length (file_of pages) ≤ max_file
     → IsWalkedAs (file_of pages) pages rows
 
--- a page that can be written: its image and its resolution are within the limits
+-- a page that can be written: its image and its resolution are within the limits, and the numbers
+-- of
+-- its bad rows have 32 bits
 pub record IsWritableSource (source : SourcePage) : Type 0 where
   pub image : IsWritableImage source.image
   pub x : IsGoodRational source.resolution.x
   pub y : IsGoodRational source.resolution.y
   pub some_unit : 1 ≤ source.resolution.unit
   pub unit : source.resolution.unit ≤ 3
+  pub bad : ForSome source.bad (λ bad. (bad.count < 2 ^ 32) × (bad.consecutive < 2 ^ 32))
 
 -- the pages as they are written in this coding (TIFF 6.0; RFC 2306)
 abbrev pub written_pages : Options → Coding → List SourcePage → List WrittenPage

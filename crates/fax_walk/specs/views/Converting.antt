@@ -58,7 +58,7 @@ IsWrittenTo TooLarge at = StaysTooLarge at
 
 -- the page of an image, which has no resolution of its own
 abbrev pub page_of_image : Image → SourcePage
-page_of_image image = record { image = image; resolution = usual_resolution }
+page_of_image image = record { image = image; resolution = usual_resolution; bad = None }
 
 -- what was taken of a raw PBM is so many whole images, which are written: whatever bytes follow,
 -- theirs are the images after them

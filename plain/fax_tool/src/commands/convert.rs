@@ -10,7 +10,7 @@ use fax_walk::{ConvertFault, ImageConversion, Options, Part, SparseBytes};
 use kit_std::alloc::Global;
 
 /// How many zeros are written at once.
-const BLOCK: usize = 65_536;
+pub(crate) const BLOCK: usize = 65_536;
 
 /// Writes so many zeros, from a block of them.
 // requires block { block.now ≡ replicate (length block.now) 0 }
@@ -62,7 +62,11 @@ fn give_part<W: Sink>(
 // ensures worked { OnOk result (HasWorked (W.counts out.new)) }
 // ensures err { IfErr result (IsGivenInPart (W.written out.old) (W.written out.new) output.now
 //     (W.counts out.new)) }
-fn write_parts<W: Sink>(out: &mut W, block: &[u8], output: &SparseBytes) -> Result<(), Refusal> {
+pub(crate) fn write_parts<W: Sink>(
+    out: &mut W,
+    block: &[u8],
+    output: &SparseBytes,
+) -> Result<(), Refusal> {
     let mut interruptions = RetryCount::NONE;
     let mut remaining = output.parts();
     while let Some(part) = remaining.next_part() {

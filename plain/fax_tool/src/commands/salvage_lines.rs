@@ -114,7 +114,7 @@ fn pass_row(walk: &mut Walk<'_>) -> Result<Option<End>, Memory> {
 // requires { is_whole ≡ true → (rows : List RowItem) × AreItems file.now rows EndOfPages }
 // ensures { IfOk result (λ end.
 //     (rows : List RowItem) × AreItems file.now rows end) }
-fn end_of_walk(alloc: Global, file: &[u8], is_whole: bool) -> Result<End, Memory> {
+pub(crate) fn end_of_walk(alloc: Global, file: &[u8], is_whole: bool) -> Result<End, Memory> {
     // A walk of its own finds the first fault, after all lines are printed: the definition of
     // `rows` alone says it, and nothing that comes after a fault can change it. Where all was whole
     // the rows end properly, and nothing is read twice.

@@ -55,6 +55,12 @@ fn fixed_line(line: &'static str) -> ErrorLine {
     ErrorLine { text }
 }
 
+/// The line of an output that is too large.
+// ensures { result ≡ convert_fault_line OutputTooLarge }
+pub fn too_large_line() -> ErrorLine {
+    fixed_line("fault: OutputTooLarge\n")
+}
+
 impl ErrorLine {
     /// The bytes.
     // ensures { result.now ≡ self.now }
@@ -80,7 +86,7 @@ pub fn conversion_line(fault: ConvertFault) -> Result<ErrorLine, Memory> {
         ConvertFault::UnknownInput => Ok(fixed_line("fault: UnknownInput\n")),
         ConvertFault::Pbm { image, fault } => Ok(image_line(image, fault)),
         ConvertFault::Source { page, row, cause } => Ok(row_fault_line(page, row, cause)),
-        ConvertFault::OutputTooLarge => Ok(fixed_line("fault: OutputTooLarge\n")),
+        ConvertFault::OutputTooLarge => Ok(too_large_line()),
         ConvertFault::Memory => Err(Memory),
     }
 }

@@ -16,4 +16,4 @@ loop-preserved c =
     let remaining = one_left c.args.count c.loop.counter (omega (arith, c.loop-test.true)) in
     let invariant = rw remaining at c.loop.invariant in
     rw c.in-Some.ensures.next
-    (omega (arith, page.1), λ rest. invariant.1 (page, rest), λ are. (invariant.2 are).1)
+    (omega (arith, page.2), λ rest. invariant.1 (page, rest), λ are. (invariant.2 are).1)

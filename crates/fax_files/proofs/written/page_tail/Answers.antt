@@ -44,5 +44,5 @@ returns c =
           )
           (sym (append-nil (c.put_rational-2.new.out.items ++ []) ∙ append-nil c.put_rational-2.new.out.items))
     ] in
-    let directory = rw c.page_fields.ensures at c.in_ok-put_directory.ensures in
-    tail_put _ _ _ _ _ _ _ _ _ _ _ _ pad directory c.in_ok-put_rational.ensures c.in_ok-put_rational-2.ensures arrays
+    tail_put _ _ _ _ _ _ _ _ _ _ _ _ pad c.in_ok-put_directory.ensures c.in_ok-put_rational.ensures
+    c.in_ok-put_rational-2.ensures arrays

@@ -8,8 +8,8 @@ use Rattle.fax_tool.proofs.args.coding.Goals as goal
 
 pub returns : goal.returns
 returns c =
-    let target : rule_of c.required-target.result ≡ target_rule = search rules in
-    let local : c.required-target.result.global ≡ false = search rules in
+    let target : rule_of c.short-target.result ≡ target_rule = search rules in
+    let local : c.short-target.result.global ≡ false = search rules in
     let order : rule_of c.number.result ≡ number_rule (codes "order") 2 = search rules in
     let k : rule_of c.number-2.result ≡ number_rule (codes "k") most_rows = search rules in
     let none = bare c.disable_help_flag.result c.new-2.result c.disable_help_flag.ensures c.new-2.ensures.app

@@ -1,4 +1,4 @@
-use Rattle.std.proofs.Common.{◌≡◌, ◌+◌, ℕ, List, [], ◌∷◌, ◌++◌, length, sym, ap, ◌∙◌, arith}
+use Rattle.std.proofs.Common.{◌≡◌, ◌+◌, ℕ, List, None, [], ◌∷◌, ◌++◌, length, sym, ap, ◌∙◌, arith}
 use Rattle.std.proofs.lemmas.List.{length_push}
 use Rattle.fax_bits.specs.declared.Colour.{Colour}
 use Rattle.fax_walk.specs.declared.options.Options.{Options}
@@ -12,7 +12,7 @@ module _ (options : Options) (output : Output) (r : ℕ) (row : List Colour) (pa
   more : length (part.rows ++ row ∷ []) ≡ r + 1
   more = length_push part.rows row ∙ ap (λ (n : ℕ). n + 1) upcoming.count
 
-  put_last : (new : Output) → r + 1 ≡ part.sheet.rows → IsWrittenTo new (after (with_row part row))
+  put_last : (new : Output) → r + 1 ≡ part.sheet.rows → IsWrittenTo new (after (with_row part row) None)
       → IsPutTo new (with_row part row)
   put_last new last written = record {
     none = λ empty. absurd (omega (arith, empty, more));

@@ -1,4 +1,4 @@
-use Rattle.std.proofs.Common.{◌≡◌, ◌<◌, ◌≤◌, ◌*◌, [], ◌∷◌, ◌++◌, length, sym, ap, ◌∙◌, subst, arith}
+use Rattle.std.proofs.Common.{◌≡◌, ◌<◌, ◌≤◌, ◌*◌, None, [], ◌∷◌, ◌++◌, length, sym, ap, ◌∙◌, subst, arith}
 use Rattle.fax_rows.specs.Coded.{packed_len}
 use Rattle.fax_files.specs.Pbm.{raster_rows}
 use Rattle.fax_walk.specs.code.Output.{BecomesTooLarge, image_sheet, no_rows, IsPartWritten}
@@ -17,7 +17,7 @@ returns-in-TooLarge c = λ at upcoming.
     (c.in_ok-begin.ensures at upcoming) in
     let large : BecomesTooLarge (no_rows at (image_sheet width height)) = rw c.in-TooLarge.is at origin.has in
     rw c.in-TooLarge.is
-    (large (raster_rows width height raster) (raster_count width height raster)
+    (large (raster_rows width height raster) None (raster_count width height raster)
     (raster_widths c.packing_undoes_unpacking.ensures width height raster enough))
 
 pub put_row-requires : goal.put_row-requires

@@ -4,7 +4,7 @@ use Rattle.clap.specs.Walk.{rule_of}
 use Rattle.fax_files.specs.Page.{most_rows}
 use Rattle.fax_tool.specs.code.CommandLine.{file_rule, flag_rule, number_rule}
 use Rattle.fax_tool.proofs.CommandLineLemmas.{argument_added}
-use Rattle.fax_tool.proofs.args.converting.Goals as goal
+use Rattle.fax_tool.proofs.args.writing.Goals as goal
 
 pub returns : goal.returns
 returns c =

@@ -1,0 +1,11 @@
+use Rattle.std.proofs.Common.{◌*◌, length, replicate}
+use Rattle.fax_bits.specs.views.Sink.{Appends}
+use Rattle.fax_page.specs.Lines.{white_row}
+use Rattle.fax_page.specs.Strip.{coded_lines}
+use Rattle.fax_page.proofs.writer.put_groups.Given as goal
+
+abbrev pub invariant-loop : goal.invariant-loop
+invariant-loop l =
+    let white = white_row l.fn.form.width in
+    Appends l.fn.sink
+    (coded_lines l.fn.form l.k (length l.fn.sink.bits) l.first white (replicate (l.counter * l.rows) white)) l.sink
