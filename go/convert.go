@@ -71,21 +71,30 @@ type Options struct {
 	Aligned bool
 }
 
-// Convert turns a TIFF-F file or raw PBM images into another file.
-func Convert(file []byte, options Options) ([]byte, error) {
-	given := C.struct_faxpages_options{target: C.uint32_t(options.Target), order: C.uint32_t(options.Order),
-		k: C.uint32_t(options.K), strip: C.uint32_t(options.Strip)}
-	if options.Order == 0 {
+// The options as the library takes them; none where a number is below 0.
+func (o Options) given() (C.struct_faxpages_options, error) {
+	given := C.struct_faxpages_options{target: C.uint32_t(o.Target), order: C.uint32_t(o.Order),
+		k: C.uint32_t(o.K), strip: C.uint32_t(o.Strip)}
+	if o.Order == 0 {
 		given.order = C.uint32_t(MSBFirst)
 	}
-	if options.K == 0 {
+	if o.K == 0 {
 		given.k = 4
 	}
-	if options.Aligned {
+	if o.Aligned {
 		given.aligned = 1
 	}
-	if options.K < 0 || options.Strip < 0 {
-		return nil, ErrOptions
+	if o.K < 0 || o.Strip < 0 {
+		return given, ErrOptions
+	}
+	return given, nil
+}
+
+// Convert turns a TIFF-F file or raw PBM images into another file.
+func Convert(file []byte, options Options) ([]byte, error) {
+	given, err := options.given()
+	if err != nil {
+		return nil, err
 	}
 	bytes, length := bytesOf(file)
 	for room := len(file) + 1024; ; {
@@ -100,5 +109,28 @@ func Convert(file []byte, options Options) ([]byte, error) {
 			return nil, err
 		}
 		return out[:converted.len], nil
+	}
+}
+
+// SalvagedFile writes a damaged file as a new one: rows that are found, and white ones in place of lost rows, which TIFF-F
+// counts in the fields 326 to 328. Pages without a form are left out; if none has one the bytes are nil.
+func (f Fax) SalvagedFile(options Options) ([]byte, error) {
+	given, err := options.given()
+	if err != nil {
+		return nil, err
+	}
+	bytes, length := bytesOf(f.file)
+	for room := len(f.file) + 1024; ; {
+		var converted C.struct_faxpages_converted
+		out := make([]byte, room)
+		status := C.faxpages_salvage_convert(bytes, length, &given, (*C.uint8_t)(&out[0]), C.size_t(room), &converted)
+		switch {
+		case status == C.FAXPAGES_NO_ROOM:
+			room = int(converted.len)
+		case status == C.FAXPAGES_DONE:
+			return out[:converted.len], nil
+		default:
+			return nil, errorOf(status, &converted.fault)
+		}
 	}
 }

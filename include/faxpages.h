@@ -571,6 +571,16 @@ uint32_t faxpages_convert(const uint8_t *file, size_t file_len,
                           const struct faxpages_options *options, uint8_t *out, size_t out_room,
                           struct faxpages_converted *converted);
 
+/* Writes the pages of a damaged TIFF-F file, as faxpages_convert writes those of a sound one: rows
+   that faxpages_salvage finds, and white ones in place of lost rows. A page with lost rows, or
+   whose receiver counted bad rows, has the fields 326 BadFaxLines, 327 CleanFaxData and 328
+   ConsecutiveBadFaxLines (RFC 2306); a page without a form is left out. END, with all of
+   `converted` 0, if no page has a form; FAULT only if the output would be too large; otherwise as
+   faxpages_convert. */
+uint32_t faxpages_salvage_convert(const uint8_t *file, size_t file_len,
+                                  const struct faxpages_options *options, uint8_t *out,
+                                  size_t out_room, struct faxpages_converted *converted);
+
 /* Writes the name of a fault by its number, as `DataEnds`, without a 0 after it, if it has room: 16
    bytes are enough. Returns how many bytes the name has, 0 if no fault has this number. */
 size_t faxpages_fault_name(uint32_t number, uint8_t *name, size_t name_room);

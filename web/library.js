@@ -164,16 +164,28 @@ class Library {
     /** Converts the file, to raw PBM (0) or TIFF-F in a coding, into memory that is taken for it.
      * @param {number} target */
     convert(target) {
+        return this.written(this.calls.faxpages_convert, target);
+    }
+
+    /** Writes the pages of a damaged file as a new one: lost rows are white, and counted in the fields 326 to 328. The status is
+     * END where no page has a form.
+     * @param {number} target */
+    salvagedFile(target) {
+        return this.written(this.calls.faxpages_salvage_convert, target);
+    }
+
+    /** What a call that writes a file has written.
+     * @param {(file: number, length: number, options: number, out: number, room: number, told: number) => number} write
+     * @param {number} target */
+    written(write, target) {
         const options = this.room("options", 20);
         this.numbers(options, 5).set([target, 1, 4, 0, 0]);
-        const call = (/** @type {number} */ out, /** @type {number} */ room) =>
-            this.calls.faxpages_convert(this.file, this.length, options, out, room, this.told);
-        let status = call(this.out, 0);
-        const length = this.numbers(this.told, 1)[0];
         let at = this.out;
+        let status = write(this.file, this.length, options, at, 0, this.told);
+        const length = this.numbers(this.told, 1)[0];
         if (status === Library.NO_ROOM) {
             at = this.room("converted", length);
-            status = call(at, length);
+            status = write(this.file, this.length, options, at, length, this.told);
         }
         const image = this.numbers(this.told, 4)[2];
         return { status, at, length, image, fault: this.faultAt(this.told + 16) };

@@ -103,20 +103,42 @@ class Saving {
         return { at: isLossy ? this.rasterLeft(page, form, false) : await this.rasterOf(page, form), form };
     }
 
-    /** The pages as TIFF-F in a coding, as they are shown.
+    /** The pages as TIFF-F in a coding, as they are shown. A fax that is saved whole and upright is as
+     * `faxpages salvage -o` writes it, with the bad rows of each page in the fields 326 to 328.
      * @param {number[]} pages @param {number[]} turns of each, in quarters @param {number} coding */
     async tiff(pages, turns, coding) {
+        const isUpright = turns.every((turned) => !turned);
+        const { at, length } = (isUpright && this.wholeFile(pages, coding)) || await this.pageByPage(pages, turns, coding);
+        this.made.file = at;
+        this.made.length = length;
+        await this.compareFile(pages, turns);
+        return new Blob([this.made.bytes(at, length)], { type: "image/tiff" });
+    }
+
+    /** The pages of the fax that have a form, written anew; or null where these are not all.
+     * @param {number[]} pages @param {number} coding */
+    wholeFile(pages, coding) {
+        const { made, library } = this;
+        made.bytes(made.takeFile(library.length), library.length).set(library.bytes(library.file, library.length));
+        const { status, at, length } = made.salvagedFile(coding);
+        if (status !== Library.DONE) {
+            return null;
+        }
+        made.file = at;
+        made.length = length;
+        return made.form(pages.length - 1) && !made.form(pages.length) ? { at, length } : null;
+    }
+
+    /** The same page by page, each as it is shown.
+     * @param {number[]} pages @param {number[]} turns @param {number} coding */
+    async pageByPage(pages, turns, coding) {
         const writing = new Writing(this.made, pages.length);
         for (const [done, page] of pages.entries()) {
             const { at, form } = await this.shown(page, turns[done] ?? 0);
             writing.add(form.written(coding), at, form.stride);
             this.tell(done + 1, 2 * pages.length);
         }
-        const { at, length } = writing.end();
-        this.made.file = at;
-        this.made.length = length;
-        await this.compareFile(pages, turns);
-        return new Blob([this.made.bytes(at, length)], { type: "image/tiff" });
+        return writing.end();
     }
 
     /** Compares the file that was made with the pages that it was made of, row by row.

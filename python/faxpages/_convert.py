@@ -3,7 +3,7 @@
 from __future__ import annotations
 
 import ctypes
-from typing import Optional, SupportsIndex
+from typing import Callable, Optional, SupportsIndex, Tuple
 
 from . import _library as _c
 from ._source import Source, bytes_of
@@ -28,25 +28,45 @@ def convert(source: Source, target: str, order: SupportsIndex = 1, k: SupportsIn
     >>> faxpages.open(faxpages.convert(b"P4 8 2\\n8\\xff", "mmr", strip=1)).page(0).strips
     2
     """
-    options = _c.Options(
+    options = _options(target, order, k, strip, align)
+    status, converted, output = _written(_c.library.faxpages_convert, bytes_of(source), options)
+    if status != _c.DONE:
+        raise _not_converted(status, converted)
+    return output
+
+
+def salvaged_file(data: bytes, target: str, order: SupportsIndex, k: SupportsIndex, strip: Optional[SupportsIndex],
+                  align: bool) -> Optional[bytes]:
+    """The pages of a damaged file, as a new file; None where no page has a form."""
+    options = _options(target, order, k, strip, align)
+    status, converted, output = _written(_c.library.faxpages_salvage_convert, data, options)
+    if status not in (_c.DONE, _c.END):
+        raise _not_converted(status, converted)
+    return output if status == _c.DONE else None
+
+
+def _options(target: str, order: SupportsIndex, k: SupportsIndex, strip: Optional[SupportsIndex],
+             align: bool) -> _c.Options:
+    return _c.Options(
         choice_of("target", target, _TARGETS), number_of("order", order, 1, 2), number_of("k", k, 1),
         0 if strip is None else number_of("strip", strip, 1), bool(align))
-    data, converted = bytes_of(source), _c.Converted()
+
+
+def _written(call: Callable[..., int], data: bytes, options: _c.Options) -> Tuple[int, _c.Converted, bytes]:
+    """The status of a call that writes a file, what it says of it, and the file's bytes."""
+    converted = _c.Converted()
     room = min(2 * len(data) + 4096, _OUTPUT)
     while True:
         out = ctypes.create_string_buffer(room)
-        status = _c.library.faxpages_convert(data, len(data), options, out, room, converted)
+        status = call(data, len(data), options, out, room, converted)
         if status != _c.NO_ROOM:
-            break
+            return status, converted, ctypes.string_at(out, converted.len)
         room = converted.len
-    if status == _c.DONE:
-        return ctypes.string_at(out, converted.len)
-    if status == _c.BAD_OPTIONS:
-        raise ValueError("align is for targets with EOLs: mh and mr")
-    raise _not_converted(status, converted)
 
 
 def _not_converted(status: int, converted: _c.Converted) -> Exception:
+    if status == _c.BAD_OPTIONS:
+        return ValueError("align is for targets with EOLs: mh and mr")
     number = converted.fault.number
     if number == 301:
         return UnknownInput("the input is neither raw PBM nor TIFF")

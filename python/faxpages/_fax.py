@@ -13,7 +13,7 @@ from typing import (
 
 from . import _library as _c
 from ._array import Array
-from ._convert import convert
+from ._convert import convert, salvaged_file
 from ._cursor import Cursor, a_cursor
 from ._directory import Directories, first_of
 from ._image import Image
@@ -448,6 +448,19 @@ class Fax(Sequence[Page]):
         b'P4\\n8 1\\n\\x18'
         """
         return convert(self._data, target, order, k, strip, align)
+
+    def salvaged_file(self, target: str, order: SupportsIndex = 1, k: SupportsIndex = 4,
+                      strip: Optional[SupportsIndex] = None, align: bool = False) -> Optional[bytes]:
+        """A damaged file as a new one, as by `faxpages salvage -o`: the rows that are found, and white ones in place
+        of lost rows, which TIFF-F counts in the fields 326 to 328. Pages without a form are left out; if none has one
+        it is None. The words are those of convert.
+
+        >>> damaged = faxpages.open("samples/three-pages.tif")
+        >>> mended = faxpages.open(damaged.salvaged_file("mmr"))
+        >>> mended[2].packed(), mended[2].received.bad_rows
+        (b'\\x18\\x00', 1)
+        """
+        return salvaged_file(self._data, target, order, k, strip, align)
 
 
 def open(source: Source) -> Fax:  # pylint: disable=redefined-builtin

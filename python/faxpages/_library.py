@@ -157,6 +157,8 @@ CALLS = {
     "faxpages_received": (U32, FILE + [U32, ctypes.POINTER(Received)]),
     "faxpages_check": (U32, FILE + [ctypes.c_void_p, SIZE, ctypes.POINTER(Report)]),
     "faxpages_convert": (U32, FILE + [ctypes.POINTER(Options), ctypes.c_void_p, SIZE, ctypes.POINTER(Converted)]),
+    "faxpages_salvage_convert": (
+        U32, FILE + [ctypes.POINTER(Options), ctypes.c_void_p, SIZE, ctypes.POINTER(Converted)]),
     "faxpages_strip_rows": (
         U32, FILE + [ctypes.POINTER(Strip), ctypes.POINTER(Place)] + NUMBERS * 2 + [SIZE, ctypes.POINTER(Told)]),
     "faxpages_strip_part": (

@@ -1,6 +1,6 @@
 //! What is wrong with a file, or with what was given.
 
-use crate::inner::{self, Cause, ConvertFault, End, RowsEnd, WalkFault};
+use crate::inner::{self, Cause, ConvertFault, End, RowsEnd, WalkFault, WriteFault};
 use std::fmt;
 
 /// Why nothing more is read or written.
@@ -96,6 +96,13 @@ impl Error {
             ConvertFault::Source { page, row, cause } => Error::at(page, row, cause),
             ConvertFault::OutputTooLarge => Error::OutputTooLarge,
             ConvertFault::Memory => Error::Memory,
+        }
+    }
+
+    pub(crate) fn of_writing(fault: WriteFault) -> Self {
+        match fault {
+            WriteFault::Memory => Error::Memory,
+            WriteFault::OutputTooLarge => Error::OutputTooLarge,
         }
     }
 }

@@ -1,5 +1,6 @@
 //! The forms of pages and of files that are written, and the words for their parts.
 
+use crate::error::{Error, Invalid};
 use crate::inner;
 use std::fmt;
 use std::str::FromStr;
@@ -285,6 +286,21 @@ impl Options {
     #[must_use]
     pub fn new(target: Target) -> Self {
         Options { target, order: FillOrder::MsbFirst, k: crate::USUAL_K, strip: None, aligned: false }
+    }
+
+    /// These options, as the plain crates take them.
+    pub(crate) fn inner(&self) -> Result<inner::Options, Error> {
+        let Options { target, order, k, strip, aligned } = *self;
+        if strip == Some(0) {
+            return Err(Invalid::StripRows.into());
+        }
+        if k == 0 {
+            return Err(Invalid::K.into());
+        }
+        if aligned && matches!(target, Target::Pbm | Target::Mmr) {
+            return Err(Invalid::Aligned.into());
+        }
+        Ok(inner::Options { target: target.inner(), order: order.inner(), k, strip, aligned })
     }
 }
 

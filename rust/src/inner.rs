@@ -7,9 +7,8 @@ pub(crate) use fax_page::{
 };
 pub(crate) use fax_rows::{BitSource, LongestRuns};
 pub(crate) use fax_walk::{
-    check, convert_sparse, Cause, ConvertFault, Cursor, DamagedPage, End, FileFault, FillOrder, LongCursor,
-    LongFault,
-    Note, NoteKind, Options, PageForm, Pages, PbmFault, Row, Report, SalvagedPart, SalvagedRows, StripFault, Target, Walk,
-    WalkFault, WalkStart,
+    check, convert_sparse, salvage_file, Cause, ConvertFault, Cursor, DamagedPage, End, FileFault, FillOrder,
+    LongCursor, LongFault, Note, NoteKind, Options, PageForm, Pages, PbmFault, Report, Row, SalvagedPart, SalvagedRows,
+    SparseBytes, StripFault, Target, Walk, WalkFault, WalkStart,
 };
 pub(crate) use kit_std::alloc::{Global, Vec as Items};

@@ -536,6 +536,29 @@ impl<'a> Fax<'a> {
     pub fn convert(&self, options: &Options) -> Result<Vec<u8>, Error> {
         convert(self.file, options)
     }
+
+    /// A damaged file as a new one: the rows that are found, and white ones in place of lost rows, which TIFF-F counts
+    /// in the fields 326 to 328. Pages without a form are left out; if none has one it is `None`.
+    ///
+    /// # Errors
+    ///
+    /// [`Error::OutputTooLarge`], [`Error::Memory`], or [`Error::Invalid`].
+    ///
+    /// ```
+    /// # let mut writer = faxpages::Writer::new(1)?;
+    /// # writer.add(&faxpages::Form::new(8, 3, faxpages::Coding::Mmr), 1, &[0x18, 0xFC, 0x00], 1)?;
+    /// # let mut file = writer.finish()?;
+    /// file[8] = 0; // the first byte of the strip
+    /// let options = faxpages::Options::new(faxpages::Target::Mmr);
+    /// let mended = faxpages::Fax::new(&file).salvaged_file(&options)?.unwrap_or_default();
+    /// assert_eq!(faxpages::Fax::new(&mended).received(0)?.bad_rows, Some(3));
+    /// # Ok::<(), faxpages::Error>(())
+    /// ```
+    pub fn salvaged_file(&self, options: &Options) -> Result<Option<Vec<u8>>, Error> {
+        let options = options.inner()?;
+        let output = inner::salvage_file(Global, self.file, &options).map_err(Error::of_writing)?;
+        output.map(|output| bytes_of(&output)).transpose()
+    }
 }
 
 /// Turns bytes, TIFF-F or raw PBM, into what the options say.
@@ -552,18 +575,12 @@ impl<'a> Fax<'a> {
 /// # Ok::<(), faxpages::Error>(())
 /// ```
 pub fn convert(file: &[u8], options: &Options) -> Result<Vec<u8>, Error> {
-    let Options { target, order, k, strip, aligned } = *options;
-    if strip == Some(0) {
-        return Err(Invalid::StripRows.into());
-    }
-    if k == 0 {
-        return Err(Invalid::K.into());
-    }
-    if aligned && matches!(target, Target::Pbm | Target::Mmr) {
-        return Err(Invalid::Aligned.into());
-    }
-    let options = inner::Options { target: target.inner(), order: order.inner(), k, strip, aligned };
-    let output = inner::convert_sparse(Global, file, &options).map_err(Error::of_conversion)?;
+    let output = inner::convert_sparse(Global, file, &options.inner()?).map_err(Error::of_conversion)?;
+    bytes_of(&output)
+}
+
+/// The bytes of a file that was written.
+fn bytes_of(output: &inner::SparseBytes) -> Result<Vec<u8>, Error> {
     let (mut out, mut parts) = (Vec::new(), output.parts());
     out.try_reserve_exact(output.len()).map_err(Error::memory)?;
     while let Some(part) = parts.next_part() {

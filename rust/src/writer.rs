@@ -1,6 +1,6 @@
 //! Files that are written page by page.
 
-use crate::inner::{self, put_totals, write_page, Global, Items, WriteFault};
+use crate::inner::{self, put_totals, write_page, Global, Items};
 use crate::strip::code_raster;
 use crate::{Coding, Error, Form, Invalid, Page, Salvaged, USUAL_K};
 use std::fmt;
@@ -177,10 +177,7 @@ impl Writer {
     fn put(&mut self, form: &inner::PageForm, strips: &[Items<u8>]) -> Result<(), Error> {
         let start = self.file.len().max(HEADER.len()) as u32;
         let (number, total) = (self.added as u16, self.total as u16);
-        let page = write_page(Global, form, strips, start, number, total).map_err(|fault| match fault {
-            WriteFault::Memory => Error::Memory,
-            WriteFault::OutputTooLarge => Error::OutputTooLarge,
-        })?;
+        let page = write_page(Global, form, strips, start, number, total).map_err(Error::of_writing)?;
         self.file.try_reserve(HEADER.len() + page.bytes.len()).map_err(Error::memory)?;
         if self.added == 0 {
             self.file.extend_from_slice(&HEADER);

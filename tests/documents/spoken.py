@@ -25,7 +25,7 @@ HEAD = """<!-- Made by tests/documents/spoken.py: change that. -->
 
 # The same things by their names
 
-How each language calls what the library has, as that language spells it. A `-` is what it has not. The header and the other sources declare each of these names, and each call of `faxpages.h` stands here: a test compares them.
+How each language calls what the library has, as that language spells it. A `-` is what it has not. The sources declare each of these names, and each call of `faxpages.h` stands here: a test compares.
 
 Where names differ there is a reason: C has calls where others have methods of what they read; `number` is a row's own number in all but C and Node, which say `row`; a name that Python or Rust has as a property or a method of its own is a member elsewhere.
 """
@@ -51,6 +51,7 @@ what the receiver counted | faxpages_received | Page.received, Received | Fax::r
 a check | faxpages_check, faxpages_report | check, Report | Fax::check, Report | Fax.Check, Report | check, Report | Faxpages.check
 a note | faxpages_note, faxpages_note_name | Note | Note, NoteKind | Note, NoteKind | Note | Note
 a conversion | faxpages_convert, faxpages_options, faxpages_converted | convert | convert, Options | Convert, Options | - | Faxpages.convert
+a damaged file, rewritten | faxpages_salvage_convert | Fax.salvaged_file | Fax::salvaged_file | Fax.SalvagedFile | - | Faxpages.salvagedFile
 a file that is written | faxpages_add_page, faxpages_end_pages, faxpages_written | write, encode | Writer | Writer, NewWriter, Write | salvaged | Faxpages.write
 bare T.4 or T.6 data | faxpages_strip, faxpages_strip_rows | strip | Strip, StripForm | Strip, StripForm | - | HowCoded
 the same, as it comes | faxpages_strip_part | StripReader | StripReader | NewReader, Reader | - | -

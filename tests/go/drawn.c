@@ -157,6 +157,9 @@ static void convert(size_t len, uint32_t number) {
         uint32_t status = faxpages_convert(file, len, &options, out, OUT, &converted);
         add_bytes(out, status == FAXPAGES_DONE ? converted.len : 0);
         add_end(status, &converted.fault);
+        status = faxpages_salvage_convert(file, len, &options, out, OUT, &converted);
+        add_bytes(out, status == FAXPAGES_DONE ? converted.len : 0);
+        add_end(status, &converted.fault);
     }
 }
 

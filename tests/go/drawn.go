@@ -130,8 +130,12 @@ func addPages(fax faxpages.Fax) {
 
 func addConverted(file []byte, number int) {
 	for target := faxpages.ToPBM; target <= faxpages.ToMMR; target++ {
-		made, err := faxpages.Convert(file, faxpages.Options{Target: target, Order: faxpages.FillOrder(1 + number%2),
-			K: 1 + number%4, Strip: number % 3, Aligned: target%3 != 0 && number/2%2 == 1})
+		options := faxpages.Options{Target: target, Order: faxpages.FillOrder(1 + number%2),
+			K: 1 + number%4, Strip: number % 3, Aligned: target%3 != 0 && number/2%2 == 1}
+		made, err := faxpages.Convert(file, options)
+		addBytes(made)
+		addError(err)
+		made, err = faxpages.New(file).SalvagedFile(options)
 		addBytes(made)
 		addError(err)
 	}

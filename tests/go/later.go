@@ -23,4 +23,6 @@ func main() {
 	})
 	_, err = faxpages.Convert([]byte("P4\n8 1\n\x00"), faxpages.Options{Target: faxpages.ToMMR})
 	fmt.Println("convert", err)
+	_, err = fax.SalvagedFile(faxpages.Options{Target: faxpages.ToMMR})
+	fmt.Println("salvage", err)
 }

@@ -106,6 +106,15 @@ uint32_t faxpages_convert(const uint8_t *file, size_t file_len, const struct fax
     return TOLD(converted) ? status : now_convert(file, file_len, options, out, out_room, converted);
 }
 
+uint32_t now_salvage_convert(const uint8_t *, size_t, const struct faxpages_options *, uint8_t *, size_t,
+                             struct faxpages_converted *);
+
+uint32_t faxpages_salvage_convert(const uint8_t *file, size_t file_len, const struct faxpages_options *options,
+                                  uint8_t *out, size_t out_room, struct faxpages_converted *converted) {
+    uint32_t status;
+    return TOLD(converted) ? status : now_salvage_convert(file, file_len, options, out, out_room, converted);
+}
+
 uint32_t now_place_parse(const uint8_t *, size_t, struct faxpages_place *, uint32_t *, size_t);
 
 uint32_t faxpages_place_parse(const uint8_t *text, size_t text_len, struct faxpages_place *place, uint32_t *runs,

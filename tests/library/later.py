@@ -34,6 +34,7 @@ CALLS: dict[str, Callable[[], object]] = {
     "a strip of unknown height": lambda: faxpages.strip(STRIP, width=8),
     "what is left of a page": lambda: PAGE.salvaged(),
     "a conversion": lambda: faxpages.convert(FAX, "mmr"),
+    "a damaged file, rewritten": lambda: faxpages.open(FAX).salvaged_file("mmr"),
 }
 
 

@@ -110,7 +110,8 @@ static void *calls(void *unused) {
     faxpages_check(file, len, notes, 64, &report);
     faxpages_received(file, len, 0, &received);
     for (options.target = 0; options.target < 4; options.target++)
-        faxpages_convert(file, len, &options, out, sizeof out, &converted);
+        faxpages_convert(file, len, &options, out, sizeof out, &converted),
+            faxpages_salvage_convert(file, len, &options, out, sizeof out, &converted);
     return unused;
 }
 

@@ -82,6 +82,22 @@ def is_converted(data: bytes, target: str, words: list[str]) -> bool:
     return status == 0 and made == output
 
 
+def is_salvaged(data: bytes, target: str, words: list[str]) -> bool:
+    """Whether the module rewrites a damaged file as the program does, or nothing where that writes nothing."""
+    output, error, status = said("salvage", "-o", target, *words, data=data)
+    options = dict(zip(words[::2], words[1::2]))
+    made = faxpages.open(data).salvaged_file(
+        target, order=int(options.get("--order", 1)), k=int(options.get("--k", 4)),
+        strip=int(options["--strip"]) if "--strip" in options else None)
+    return (made or b"") == output and error in ("", *fault_lines(data)) and status == (error != "")
+
+
+def fault_lines(data: bytes) -> list[str]:
+    """The line of a file's fault, if it has one."""
+    fault = faxpages.check(data).fault
+    return [f"fault {fault.line}\n"] if fault else []
+
+
 def batches(data: bytes) -> list[faxpages.Row]:
     """All rows in batches of three, each from the cursor of the one before, through its text."""
     fax, cursor, found = faxpages.open(data), faxpages.Cursor(), list[faxpages.Row]()
@@ -200,11 +216,13 @@ def main() -> int:
         see(f"batches of {name}", len(batches(data)) == said("rows", data=data)[0].count(b"row "))
         for target, words in TARGETS:
             see(f"{name} as {target}", is_converted(data, target, words))
+            see(f"what is left of {name} as {target}", is_salvaged(data, target, words))
     for claim in [*many_pages(), *long_page()]:
         see(*claim)
     small = [data for data in files.values() if len(data) < 3000]
     for name, data in damaged(small):
         see(f"rows of {name}", rows_by_module(data) == said("rows", data=data))
+        see(f"what is left of {name}", is_salvaged(data, "mmr", []))
     for text in ("", "1:0", "1:00:0", "2:0:0:0:", "3:0:0", "1:0:4294967296", "1:0:0 ", "é"):
         try:
             faxpages.Cursor.parse(text)

@@ -124,6 +124,23 @@ static void conversions(void) {
         "with out_room 0 the length is told");
 }
 
+/* The pages of a damaged file: none of them has a form, or all do. */
+static void salvaged_files(void) {
+    static const uint8_t none[8] = {'I', 'I', 42};
+    struct faxpages_options options = {0, 1, 4, 0, 2};
+    struct faxpages_converted converted, whole;
+    memset(&converted, 0x5A, sizeof converted);
+    see(faxpages_salvage_convert(file, len, &options, out, 0, &converted) == FAXPAGES_NO_OPTIONS &&
+            converted.len == 0 && converted.image == 0 && converted.fault.number == 0, "no options, and no file");
+    options.aligned = 0;
+    memset(&converted, 0x5A, sizeof converted);
+    see(faxpages_salvage_convert(none, sizeof none, &options, out, sizeof out, &converted) == FAXPAGES_END &&
+            converted.len == 0 && converted.image == 0 && converted.fault.number == 0, "no page, and no file");
+    see(faxpages_salvage_convert(file, len, &options, out, sizeof out, &whole) == FAXPAGES_DONE &&
+            faxpages_salvage_convert(file, len, &options, out, 0, &converted) == FAXPAGES_NO_ROOM &&
+            converted.len == whole.len && whole.len > 0, "with out_room 0 the length is told of pages that are left");
+}
+
 /* A place that no call told may be at a fault too. */
 static void forged(void) {
     struct faxpages_place place = {0, 1, 8, 1};
@@ -140,6 +157,7 @@ int main(void) {
     rooms_of_0();
     texts();
     conversions();
+    salvaged_files();
     forged();
     free(file);
     return wrong;

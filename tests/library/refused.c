@@ -182,6 +182,11 @@ int main(int count, char **words) {
         left = -1;
         if (status == FAXPAGES_MEMORY && (out[0] != 0xA5 || converted.len != 0)) return 7;
         if (status == FAXPAGES_DONE && (out[0] == 0xA5 || converted.len == 0)) return 8;
+        memset(out, 0xA5, 64);
+        left = n;
+        status = faxpages_salvage_convert(file, len, &options, out, ROOM, &converted);
+        left = -1;
+        if ((status == FAXPAGES_DONE) == (out[0] == 0xA5) || (status == FAXPAGES_DONE) == (converted.len == 0)) return 30;
     }
     for (n = 0; n < 40; n++) {
         int wrong = one_page(file, len, n);

@@ -131,6 +131,12 @@ static void convert(size_t len, uint32_t number) {
         add_fault(&converted.fault);
         if (status == FAXPAGES_DONE)
             add_bytes(out, converted.len);
+        status = faxpages_salvage_convert(file, len, &options, out, OUT, &converted);
+        add(status);
+        add(converted.len);
+        add_fault(&converted.fault);
+        if (status == FAXPAGES_DONE)
+            add_bytes(out, converted.len);
     }
 }
 

@@ -112,6 +112,14 @@ function convert(len, number) {
         if (status === DONE) {
             addBytes(out, made);
         }
+        const salvaged = calls.faxpages_salvage_convert(file, len, options, out, OUT, report);
+        const length = view(report, 1)[0];
+        add(salvaged);
+        add(length);
+        addAll(view(report + 16, 4));
+        if (salvaged === DONE) {
+            addBytes(out, length);
+        }
     }
 }
 

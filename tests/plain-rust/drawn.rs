@@ -206,6 +206,17 @@ fn convert_all(sum: &mut Sum, file: &[u8], number: u32) {
         if status == DONE {
             sum.bytes(&out);
         }
+        let (status, out, fault) = match Fax::new(file).salvaged_file(&options) {
+            Ok(Some(out)) => (if out.len() > OUT { NO_ROOM } else { DONE }, out, NO_FAULT),
+            Ok(None) => (END, Vec::new(), NO_FAULT),
+            Err(error) => (status_of(&error).0, Vec::new(), status_of(&error).1),
+        };
+        sum.add(status.into());
+        sum.add(out.len() as u64);
+        sum.numbers(&fault);
+        if status == DONE {
+            sum.bytes(&out);
+        }
     }
 }
 

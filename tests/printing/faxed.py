@@ -93,7 +93,7 @@ def ten(room: Room) -> None:
         form = FORMS[number % len(FORMS)] if name != "mixed" else FORMS[0]
         pairs = zip(("FaxCoding", "FaxResolution", "FaxWidth"), form)
         words = [word for pair in pairs for word in ("-o", "=".join(pair))]
-        jobs[name] = (room.server.print("Fax", "-t", name, "-o", f"FaxNumber='+49 30 {number}'", *words, path), form)
+        jobs[name] = (room.server.print("Fax", "-t", name, "-o", f"FaxNumber=+49-30-{number}", *words, path), form)
     for it, name in zip(room.server.ended(*[job for job, _ in jobs.values()]), jobs):
         room.claim(f"{name}: {it.message}", it.state, "completed")
     got = spooled(room.spool)
@@ -165,7 +165,7 @@ def held(room: Room) -> None:
         "two": (["-t", "fax:030123 fax:030124"], "more than one number: 030123 and 030124"),
         "two options": (["-o", "FaxNumber=1", "-o", "phone=2"], "more than one number: 1 and 2"),
         "blanks": (["-o", "FaxNumber=+49 30 123"], "'123' is no option: write the number without blanks"),
-        "(0)": (["-o", "FaxNumber='+49 (0)30 123'"], "'+49 (0)30 123' is no number"),
+        "(0)": (["-o", "FaxNumber=+49(0)30/123"], "'+49(0)30/123' is no number"),
         "an option": (["-o", "FaxNumber=-d12"], "'-d12' is no number"),
         "a command": (["-o", "FaxNumber=0`id`"], "'0`id`' is no number"),
         "coding": (["-o", "FaxNumber=1", "-o", "FaxCoding=JBIG"], "FaxCoding is mh, mr or mmr"),
@@ -187,7 +187,7 @@ def numbers(room: Room) -> None:
              "Letter fax:+49-30-1234": ([], "+49301234"), "FAX: 0301235 to Anna": ([], "0301235"),
              "by phone": (["-o", "phone=030/1236"], "0301236"),
              "custom": (["-o", "FaxNumber=Custom.0301237"], "0301237"),
-             "twice fax:1238 fax:12-38": ([], "1238"), "option fax:9": (["-o", "FaxNumber='(030) 1239'"], "0301239"),
+             "twice fax:1238 fax:12-38": ([], "1238"), "option fax:9": (["-o", "FaxNumber=(030)1239"], "0301239"),
              "None fax:1240": (["-o", "FaxNumber=None"], "1240")}  # fmt: skip
     jobs = [room.server.print("Fax", "-t", title, *words, pdf) for title, (words, _) in cases.items()]
     states = {it.state for it in room.server.ended(*jobs)}

@@ -93,6 +93,26 @@ def repeated(pages: int, width: int, rows: int, strip: bytes) -> bytes:
     return b"".join(data) + strip
 
 
+def blanks(room: Room) -> None:
+    """Numbers with blanks, as CUPS hands them on. No job has one: cupsd 2.4.2-3+deb12u10 of Debian ends at each option
+    with a blank."""
+    pdf = room.made("gs-1.pdf")
+    for number, wanted in (("+49 30 1264", "+49301264"), ("(030) 1265", "0301265")):
+        option, name = new_identity(room)
+        status, _, said = by_hand(room, True, f"{option} FaxNumber={escaped(number)}", pdf)
+        room.claim(f"{number}: done: {said}", status, 0)
+        with open(f"{room.spool}/{name}.job", encoding="utf-8") as file:
+            room.claim(f"{number}: number", file.readline(), f"number: {wanted}\n")
+    option, _ = new_identity(room)
+    status, _, said = by_hand(room, True, f"{option} FaxNumber={escaped('+49 (0)30 123')}", pdf)
+    room.claim(f"(0), with blanks: held: {said}", (status, "'+49 (0)30 123' is no number" in said), (3, True))
+
+
+def escaped(value: str) -> str:
+    """A value of an option, as CUPS writes it."""
+    return value.replace(" ", "\\ ")
+
+
 def bounds(room: Room) -> None:
     """Files that are made to take long: pages, pels, strips and time are bounded."""
     # Each row as the row before, which is white at first.
@@ -314,6 +334,7 @@ def folders(room: Room) -> None:
 
 def play(room: Room) -> None:
     words(room)
+    blanks(room)
     bounds(room)
     kinds(room)
     documents(room)

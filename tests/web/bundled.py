@@ -39,6 +39,8 @@ def is_the_programs(program: str, path: str, said: dict[str, str], how: str) -> 
         ran = subprocess.run([program, "convert", "-o", target, path], capture_output=True, check=False)
         made = base64.b64encode(ran.stdout).decode() if ran.returncode == 0 else ran.stderr.decode().strip()
         yield f"{name}: convert -o {target}", said[target] == made, True
+        left = subprocess.run([program, "salvage", "-o", target, path], capture_output=True, check=False).stdout
+        yield f"{name}: salvage -o {target}", said[f"salvaged {target}"] == base64.b64encode(left).decode(), True
 
 
 def bundle(folder: str, name: str) -> str:

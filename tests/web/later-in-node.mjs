@@ -9,6 +9,7 @@ const faxpages = await Faxpages.load();
 const calls = {
     list: () => faxpages.list(file), check: () => faxpages.check(file), rows: () => [...faxpages.rows(file)].length,
     salvage: () => [...faxpages.salvage(file)].map(({ lost }) => lost), convert: () => faxpages.convert(file, "mmr").length,
+    salvagedFile: () => faxpages.salvagedFile(file, "mmr")?.length,
 };
 for (const what of ["", "notes", "fault", "status"]) {
     globalThis.LATER = what;

@@ -5,7 +5,7 @@
     const Instance = WebAssembly.Instance;
     // Where a call tells its fault: how many bytes it tells, and how many of these stand before the fault.
     const TOLD = { forms: [32, 16], rows_from: [32, 16], salvage: [32, 16], strip_rows: [32, 16], check: [40, 20],
-        convert: [32, 16] };
+        convert: [32, 16], salvage_convert: [32, 16] };
     const later = (memory, call, [size, before]) => (...words) => {
         const told = new Uint32Array(memory.buffer, words[words.length - 1], size / 4);
         if (globalThis.LATER !== "fault" && globalThis.LATER !== "status") {

@@ -25,7 +25,7 @@ LATER = """(() => {{
 FINDINGS = '[...document.querySelectorAll("#findings > li, #notes-list li")].map((it) => it.textContent)'
 NOTES = [{"page": 0, "strip": 0, "number": 98, "name": "LaterNote"},
          {"page": 0, "strip": None, "number": 99, "name": "Unknown"}]  # fmt: skip
-CALLS = ("list", "check", "rows", "salvage", "convert")
+CALLS = ("list", "check", "rows", "salvage", "convert", "salvagedFile")
 
 
 def opened(browser: Browser, what: str, found: int) -> str:

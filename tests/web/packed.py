@@ -33,6 +33,8 @@ async function tried(): Promise<void> {
     widths.push(bad ?? 0);
     for (const { lost } of faxpages.salvage(new Uint8Array(0))) lost.map((it) => it.rows + widths.length);
     const made: Uint8Array = faxpages.convert(new Uint8Array(0), "mmr");
+    const mended: Uint8Array | null = faxpages.salvagedFile(made, "pbm");
+    widths.push(mended === null ? 0 : mended.length);
     const written: Uint8Array = faxpages.write([...faxpages.salvage(made)].filter(({ form }) => form), "mr");
     const one: Uint8Array = faxpages.write([{ form: { width: 8, rows: 1, down: 98 }, raster: written }]);
     const data: Uint8ClampedArray = faxpages.rgba(one, 0, { square: false }).data;
@@ -47,6 +49,7 @@ DRAWN = 300
 # Each line is refused by itself.
 WRONG = """faxpages.convert(new Uint8Array(0), "gif")
 faxpages.list("fax.tif")
+faxpages.salvagedFile(new Uint8Array(0), "mmr").length
 faxpages.check([1, 2, 3])
 faxpages.bare(new Uint8Array(0), { width: 8 })
 faxpages.write(faxpages.list(new Uint8Array(0)).pages)

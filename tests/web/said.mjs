@@ -82,5 +82,7 @@ export function told(faxpages, file) {
         check: said((lines) => check(faxpages, file, lines)), salvage: said((lines) => salvage(faxpages, file, lines)),
         ...Object.fromEntries(["mmr", "mr", "mh", "pbm"].map((to) =>
             [to, said((lines) => lines.push(base64(faxpages.convert(file, to))))])),
+        ...Object.fromEntries(["mmr", "mr", "mh", "pbm"].map((to) =>
+            [`salvaged ${to}`, said((lines) => lines.push(base64(faxpages.salvagedFile(file, to) ?? [])))])),
     };
 }

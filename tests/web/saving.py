@@ -105,6 +105,8 @@ def damaged(browser: Browser, program: str, room: str) -> Generator[Claim, None,
             if pages:
                 lines = faxes.said(program, "rows", put(f"{room}/saved.tif", got)).splitlines()
                 yield f"{path}: rows", lines, [*left_of(program, path, dict(widths)), "end"]
+                left = subprocess.run([program, "salvage", "-o", "mmr", path], capture_output=True, check=False).stdout
+                yield f"{path}: as the program writes it", got == left, True
                 lacks = len(whole_ones) < len(pages)
                 yield f"{path}: it says so", ("missing rows are white" in said, "it is right" in said), (
                     lacks, not lacks)

@@ -492,6 +492,25 @@ export class Faxpages {
             const isOther = fault.number > Faxpages.OF_FILES && !isImage;
             throw Faxpages.faultOf(library, fault, isImage ? ` image ${image}` : isOther ? "" : undefined);
         }
+        return Faxpages.output(library, status, at, length);
+    }
+
+    /** Writes a damaged file as a new one: lost rows are white, and counted in the fields 326 to 328. It is null where no page
+     * has a form.
+     * @param {Bytes} file @param {"pbm" | "mh" | "mr" | "mmr"} to @returns {Uint8Array | null} */
+    salvagedFile(file, to) {
+        const target = Faxpages.TARGETS.indexOf(Arguments.word(to, Faxpages.TARGETS));
+        const library = this.opened(file);
+        const { status, at, length, fault } = library.salvagedFile(target);
+        if (status === Library.FAULT) {
+            throw Faxpages.faultOf(library, fault, fault.number > Faxpages.OF_FILES ? "" : undefined);
+        }
+        return status === Library.END ? null : Faxpages.output(library, status, at, length);
+    }
+
+    /** The bytes of a file that was written.
+     * @param {Library} library @param {number} status @param {number} at @param {number} length */
+    static output(library, status, at, length) {
         if (status === Library.NO_ROOM) {
             throw new RangeError("the output would be too large");
         }

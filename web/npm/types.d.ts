@@ -177,4 +177,7 @@ export class Faxpages {
     write(pages: Iterable<PageToWrite>, to?: "mh" | "mr" | "mmr"): Uint8Array;
     /** Converts TIFF-F or raw PBM, whole or not at all: a fault is thrown. */
     convert(file: Bytes, to: "pbm" | "mh" | "mr" | "mmr"): Uint8Array;
+    /** Writes a damaged file as a new one: lost rows are white, and counted in the fields 326 to 328. It is null where no page
+     * has a form. */
+    salvagedFile(file: Bytes, to: "pbm" | "mh" | "mr" | "mmr"): Uint8Array | null;
 }

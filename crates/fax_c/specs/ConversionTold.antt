@@ -1,9 +1,10 @@
 -- What a conversion says. A definition without a citation is this project's profile.
-use Rattle.std.specs.Prelude.{◌≡◌, ℕ, ◌⊎◌, nat_le, if◌then◌else◌, List, length, unwrap_or}
+use Rattle.std.specs.Prelude.{◌≡◌, ℕ, ◌⊎◌, nat_le, if◌then◌else◌, List, [], length, unwrap_or}
 use Rattle.fax_walk.specs.declared.options.ConvertFault.{ConvertFault}
 use Rattle.fax_walk.specs.declared.options.ConvertFault.TheVariants as Refused
 use Rattle.fax_walk.specs.declared.options.Options.{Options}
 use Rattle.fax_walk.specs.Converted.{IsConverted, IsNotConverted}
+use Rattle.fax_walk.specs.SalvagedFile.{IsSalvagedSource, IsSalvagedTo, IsSalvagedTooLarge}
 use Rattle.fax_c.specs.declared.file_conversion.FaxConverted.{FaxConverted}
 use Rattle.fax_c.specs.declared.file_conversion.FaxOptions.{FaxOptions}
 use Rattle.fax_c.specs.declared.faults.FaxFault.{FaxFault}
@@ -48,15 +49,33 @@ IsOutputTold output old new converted status =
     × IsTextPut output old (length output) new
     × (status ≡ (if nat_le (length output) (length old) then 0 else 5))
 
--- the numbers are no options; or the file is converted as they say, or refused, or memory was
--- refused; where there is no output, nothing is written
-abbrev pub TellsConversion : List ℕ → FaxOptions → List ℕ → List ℕ → FaxConverted → ℕ → Type 0
-TellsConversion file given old new converted status =
+-- the numbers are no options, and nothing is written; or this is so of the options that they are
+abbrev pub TellsWithOptions : FaxOptions → List ℕ → List ℕ → FaxConverted → ℕ → (Options → Type 0)
+    → Type 0
+TellsWithOptions given old new converted status told =
     ((status ≡ 7) × ((options : Options) → AreOptionsGiven given options → ⊥)
     × (converted ≡ no_output) × (new ≡ old))
-    ⊎ ((options : Options) × AreOptionsGiven given options
-    × (((output : List ℕ) × IsConverted file options output
+    ⊎ ((options : Options) × AreOptionsGiven given options × told options)
+
+-- the file is converted as the options say, or refused, or memory was refused; where there is no
+-- output, nothing is written
+abbrev pub TellsConversion : List ℕ → FaxOptions → List ℕ → List ℕ → FaxConverted → ℕ → Type 0
+TellsConversion file given old new converted status =
+    TellsWithOptions given old new converted status (λ options.
+    ((output : List ℕ) × IsConverted file options output
     × IsOutputTold output old new converted status)
     ⊎ ((status ≡ 2) × ((fault : ConvertFault) × IsNotConverted file options fault
     × (converted ≡ refusal_of fault)) × (new ≡ old))
-    ⊎ ((status ≡ 4) × (converted ≡ no_output) × (new ≡ old))))
+    ⊎ ((status ≡ 4) × (converted ≡ no_output) × (new ≡ old)))
+
+-- the pages of a damaged file are written as the options say; or none has a form; or they would be
+-- too large; or memory was refused. Where there is no output, nothing is written
+abbrev pub TellsSalvagedFile : List ℕ → FaxOptions → List ℕ → List ℕ → FaxConverted → ℕ → Type 0
+TellsSalvagedFile file given old new converted status =
+    TellsWithOptions given old new converted status (λ options.
+    ((output : List ℕ) × IsSalvagedTo file options output
+    × IsOutputTold output old new converted status)
+    ⊎ ((status ≡ 1) × IsSalvagedSource file [] × (converted ≡ no_output) × (new ≡ old))
+    ⊎ ((status ≡ 2) × IsSalvagedTooLarge file options
+    × (converted ≡ refusal_of Refused.OutputTooLarge) × (new ≡ old))
+    ⊎ ((status ≡ 4) × (converted ≡ no_output) × (new ≡ old)))

@@ -75,7 +75,7 @@ fn target_has_eols(target: Target) -> bool
 }
 
 /// The options that these numbers are, if they are any.
-fn options_of(given: &FaxOptions) -> Option<Options>
+pub(crate) fn options_of(given: &FaxOptions) -> Option<Options>
     ensures { MatchOption result
         ((options : TheOptions) → Spec.AreOptionsGiven given.now options → ⊥)
         (Spec.AreOptionsGiven given.now) }
@@ -117,7 +117,7 @@ impl FaxConverted {
     ghost use Rattle.fax_c.specs.ConversionTold.{no_output, refusal_of};
 
     /// No output, and no fault.
-    fn none() -> Self
+    pub(crate) fn none() -> Self
         ensures { result ≡ no_output }
     {
         FaxConverted {
@@ -128,7 +128,7 @@ impl FaxConverted {
     }
 
     /// Why a file is not converted.
-    fn refused(fault: ConvertFault) -> Self
+    pub(crate) fn refused(fault: ConvertFault) -> Self
         ensures { result ≡ refusal_of fault }
     {
         let (image, fault) = match fault {
@@ -175,7 +175,7 @@ fn put_parts(output: &SparseBytes, out: &mut [u8])
 }
 
 /// Writes the output where it has room, and says how long it is.
-fn put_output(output: &SparseBytes, out: &mut [u8], converted: &mut FaxConverted) -> u32
+pub(crate) fn put_output(output: &SparseBytes, out: &mut [u8], converted: &mut FaxConverted) -> u32
     ensures { Spec.IsOutputTold output.now out.old out.new converted.new result }
 {
     *converted = FaxConverted {

@@ -23,6 +23,7 @@ mod raster;
 mod received;
 mod row_runs;
 mod rows;
+mod salvage_conversion;
 mod salvage_from;
 mod salvaged_raster;
 mod status;

@@ -196,6 +196,16 @@ pub fn faxpages_rows_from(
 }
 
 /// As the header says.
+pub fn faxpages_salvage_convert(
+    file: &[u8],
+    options: &FaxOptions,
+    out: &mut [u8],
+    converted: &mut FaxConverted,
+) -> u32 {
+    crate::salvage_conversion::faxpages_salvage_convert(Global, file, options, out, converted)
+}
+
+/// As the header says.
 pub fn faxpages_salvage_from(
     file: &[u8],
     place: &mut FaxPlace,

@@ -70,7 +70,7 @@ fn target_has_eols(target: Target) -> bool {
 // ensures { MatchOption result
 //     ((options : TheOptions) → Spec.AreOptionsGiven given.now options → ⊥)
 //     (Spec.AreOptionsGiven given.now) }
-fn options_of(given: &FaxOptions) -> Option<Options> {
+pub(crate) fn options_of(given: &FaxOptions) -> Option<Options> {
     let target = target_of(given.target)?;
     let order = order_of(given.order)?;
     if given.k == 0 || given.aligned > 1 {
@@ -106,7 +106,7 @@ fn refusal_status(fault: ConvertFault) -> u32 {
 impl FaxConverted {
     /// No output, and no fault.
     // ensures { result ≡ no_output }
-    fn none() -> Self {
+    pub(crate) fn none() -> Self {
         FaxConverted {
             len: 0,
             image: 0,
@@ -116,7 +116,7 @@ impl FaxConverted {
 
     /// Why a file is not converted.
     // ensures { result ≡ refusal_of fault }
-    fn refused(fault: ConvertFault) -> Self {
+    pub(crate) fn refused(fault: ConvertFault) -> Self {
         let (image, fault) = match fault {
             ConvertFault::Source { page, row, cause } => (0, FaxFault::of_cause(page, row, cause)),
             ConvertFault::Pbm { image, fault } => {
@@ -160,7 +160,7 @@ fn put_parts(output: &SparseBytes, out: &mut [u8]) {
 
 /// Writes the output where it has room, and says how long it is.
 // ensures { Spec.IsOutputTold output.now out.old out.new converted.new result }
-fn put_output(output: &SparseBytes, out: &mut [u8], converted: &mut FaxConverted) -> u32 {
+pub(crate) fn put_output(output: &SparseBytes, out: &mut [u8], converted: &mut FaxConverted) -> u32 {
     *converted = FaxConverted {
         len: output.len(),
         image: 0,

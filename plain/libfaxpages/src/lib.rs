@@ -471,6 +471,29 @@ pub unsafe extern "C" fn faxpages_rows_from(
 ///
 /// The header says what the caller owes.
 #[no_mangle]
+pub unsafe extern "C" fn faxpages_salvage_convert(
+    file: *const u8,
+    file_len: usize,
+    options: *const FaxOptions,
+    out: *mut u8,
+    out_len: usize,
+    converted: *mut FaxConverted,
+) -> u32 {
+    // SAFETY: as above.
+    unsafe {
+        calls::faxpages_salvage_convert(
+            kit_std::c::items(file, file_len),
+            &*options,
+            kit_std::c::items_mut(out, out_len),
+            &mut *converted,
+        )
+    }
+}
+
+/// # Safety
+///
+/// The header says what the caller owes.
+#[no_mangle]
 pub unsafe extern "C" fn faxpages_salvage_from(
     file: *const u8,
     file_len: usize,

@@ -278,6 +278,9 @@ calls! {
         form: &FaxStrip, k: u32, rows: &[FaxRow], runs: &[u32], out: &mut [u8], len: &mut usize,
     ) -> u32;
     fn faxpages_convert(file: &[u8], options: &FaxOptions, out: &mut [u8], converted: &mut FaxConverted) -> u32;
+    fn faxpages_salvage_convert(
+        file: &[u8], options: &FaxOptions, out: &mut [u8], converted: &mut FaxConverted,
+    ) -> u32;
     fn faxpages_place_text(place: &FaxPlace, runs: &[u32], text: &mut [u8], len: &mut usize) -> u32;
     fn faxpages_place_parse(text: &[u8], place: &mut FaxPlace, runs: &mut [u32]) -> u32;
     fn faxpages_forms(file: &[u8], page: u32, forms: &mut [FaxForm], told: &mut FaxTold) -> u32;
