@@ -7,11 +7,14 @@ import email.policy
 import os
 import re
 import shutil
+import struct
 from typing import Iterator
 
 from tests import Claim
 from tests.finding import found
+from tests.recipes.bounds import WHITE, directory
 from tests.recipes.receiving import other_kinds
+from tests.recipes.recipes import SCRIPTS
 from tests.recipes.room import HOSTILE, Room, Tests
 
 MAILER = """#!/bin/sh
@@ -19,6 +22,7 @@ cat >"$HOME/mailed"
 echo "$*" >"$HOME/mailed-by"
 """
 HYLAFAX = "/var/spool/hylafax"
+NOISY = "received/over-a-noisy-line.tif"
 # What Debian's faxsetup finds out, as far as faxrcvd asks for it.
 SETUP = """AWK=awk
 GREP=grep
@@ -40,13 +44,14 @@ def hylafax(room: Room, commands: str) -> Iterator[Claim]:
     room.put("spool/etc/setup.cache", SETUP.format(room=room.path, sbin=f"{room.path}/bin").encode())
     room.tool("faxinfo", f"#!/bin/sh\nexec {tool_of('faxinfo')} \"$@\"\n")
     room.put("spool/etc/FaxDispatch", b"SENDTO=office\nFILETYPE=pdf\n")
+    room.others("spool/recvq/good.tif")
+    before = [received_by_hylafax(room, "good", error) for error in ("", "No EOP")]
     commands = commands.replace(f"{HYLAFAX}/etc", room("spool/etc"))
     yield "run", room.bash(commands), (0, b"", "")
     yield "again", room.bash(commands), (0, b"", "")
-    for kind, sample in (("good", ""), ("faulty", "damaged-fourth-page.tif"),
-                         ("noisy", "received/over-a-noisy-line.tif")):  # fmt: skip
+    yield from mailed_as_before(room, before)
+    for kind, sample in (("good", ""), ("faulty", "damaged-fourth-page.tif"), ("noisy", NOISY)):
         name = f"spool/recvq/{kind}.tif"
-        room.others(name)
         if sample:
             room.sample(sample, name)
         data = room.get(name)
@@ -62,12 +67,125 @@ def hylafax(room: Room, commands: str) -> Iterator[Claim]:
         attached = [part.get_content_type() for mail in mails for part in mail.walk() if part.get_filename()]
         yield f"{kind}: the PDF is attached", attached, ["application/pdf"]
         yield f"{kind}: the fax stays", room.get(name), data
+    yield from salvaged_by_hylafax(room)
+    yield from not_salvaged_by_hylafax(room)
+    yield from much_said_by_hylafax(room)
     yield from not_checked_by_hylafax(room)
+    yield "nothing is left", room.left(), []
 
 
-def received_by_hylafax(room: Room, kind: str) -> tuple[int, list[email.message.EmailMessage]]:
-    """Lets faxrcvd handle a fax: its status, and the mails."""
-    status = room.bash(f"cd spool && bash bin/faxrcvd recvq/{kind}.tif ttyS0 000000001 '' 12345 'A `caller`'")[0]
+def mailed_as_before(room: Room, before: list[tuple[int, list[email.message.EmailMessage]]]) -> Iterator[Claim]:
+    """Of a whole fax the mails are those without the recipe, and the report; also where HylaFAX reports an error."""
+    report = room.report("spool/recvq/good.tif").decode()
+    for error, (_, wanted) in zip(("", "No EOP"), before):
+        _, got = received_by_hylafax(room, "good", error)
+        yield f"whole, '{error}': mails", (len(got), len(wanted)), (2, 2)
+        for mail, other in zip(got, wanted):
+            to = f"whole, '{error}', {mail['To']}"
+            yield f"{to}: head", (mail["To"], mail["Subject"]), (other["To"], other["Subject"])
+            lines = [[line for line in text.splitlines() if line] for text in (text_of(mail), text_of(other), report)]
+            yield f"{to}: text", lines[0], [*lines[1], "faxpages check:", *lines[2]]
+            yield f"{to}: its head", text_of(mail)[:20], text_of(other)[:20]
+            yield f"{to}: files", list(parts_of(mail)), list(parts_of(other))
+
+
+def salvaged_by_hylafax(room: Room) -> Iterator[Claim]:
+    """What the office is mailed of a damaged fax: first what is missing, and the salvaged files, in each form."""
+    dispatch = room.get("spool/etc/FaxDispatch")
+    room.put("spool/etc/FaxDispatch", dispatch.replace(b"FILETYPE=pdf", b'FILETYPE="pdf tif ps raw"'))
+    os.chmod(room("spool/recvq/noisy.tif"), 0o600)
+    _, mails = received_by_hylafax(room, "noisy")
+    summed = "Fax of 1 page: readable, 8 of 340 rows are missing."
+    for mail in mails:
+        lines = text_of(mail).splitlines()
+        yield f"{mail['To']}: subject", mail["Subject"].startswith(f"{summed} Fax received "), True
+        yield f"{mail['To']}: text", (lines[:2], "page 1 rows 72 to 73: MissingEol" in lines), ([summed, ""], True)
+    (office,) = [mail for mail in mails if mail["To"] == "office"]
+    yield "office: which file is which", text_of(office).splitlines()[2:4], [
+        "The attached file noisy-salvaged has each row that can be read.",
+        "Missing rows are grey or white there. The fax as it came is recvq/noisy.tif."]  # fmt: skip
+    parts = parts_of(office)
+    names = [f"noisy-salvaged.{form}" for form in ("pdf", "tif", "ps")]
+    yield "office: files", list(parts), [*names, "noisy.tif"]
+    salvaged = room.run("salvage", "-o", "mmr", name="spool/recvq/noisy.tif")[1]
+    yield "office: TIFF, and the fax", (parts.get("noisy-salvaged.tif"), parts.get("noisy.tif")), (
+        salvaged, room.get("spool/recvq/noisy.tif"))  # fmt: skip
+    yield "office: PostScript", parts.get("noisy-salvaged.ps", b"")[:4], b"%!PS"
+    room.put("mailed.pdf", parts.get("noisy-salvaged.pdf", b""))
+    listed = room.call("pdfimages", "-list", "mailed.pdf")[1].decode().splitlines()[2:]
+    os.remove(room("mailed.pdf"))
+    yield "office: lost rows of the PDF are grey", [line.split()[3:6] for line in listed], [["1728", "680", "gray"]]
+    room.put("spool/etc/FaxDispatch", dispatch)
+
+
+def not_salvaged_by_hylafax(room: Room) -> Iterator[Claim]:
+    """A mail goes out with what there is, and says so: without the programs for a PDF, without the script, and of a fax
+    that has no page; what is no fax that is supported is not called damaged."""
+    room.sample(NOISY, "spool/recvq/bad.tif")
+    room.tool("faxpages-salvage", "#!/bin/sh\necho 'no room' >&2\nexit 3\n")
+    yield from mailed_first(room, "Fax, damaged: salvaged, missing rows are white.", "bad-salvaged.pdf", "no room")
+    room.tool("faxpages-hylafax", "#!/bin/sh\necho 'no script' >&2\nexit 127\n")
+    lost = "Fax, damaged: what is left of it cannot be shown."
+    yield from mailed_first(room, lost, "bad.pdf", "no script", "made of the fax as it came. It may show wrong rows.")
+    for name in ("faxpages-salvage", "faxpages-hylafax"):
+        os.remove(f"{room.path}/bin/{name}")
+        os.symlink(f"{SCRIPTS}/{name}", f"{room.path}/bin/{name}")
+    room.put("spool/recvq/bad.tif", b"II*\0\0\0\0\0")
+    yield from mailed_first(room, "Fax of 0 pages or more: nothing of it can be read.", "", "page 1: NoDirectory")
+    for name, kind, status in other_kinds(room, "kinds"):
+        if name.endswith("-lzw.tif"):
+            shutil.move(room(name), room("spool/recvq/bad.tif"))
+            yield from mailed_first(room, f"Not a fax that is read here: {kind}.", "bad.pdf", "Unsupported 259")
+    shutil.rmtree(room("kinds"))
+
+
+def mailed_first(room: Room, summed: str, attached: str, *said: str) -> Iterator[Claim]:
+    """What the mails about bad.tif say first, what else, and which file the office gets."""
+    status, mails = received_by_hylafax(room, "bad")
+    firsts = [text_of(mail).splitlines()[0] for mail in mails]
+    yield f"{summed}: first", (status, firsts), (0, [summed, summed])
+    yield f"{summed}: subjects", [mail["Subject"].startswith(f"{summed} Fax received") for mail in mails], [True] * 2
+    (office,) = [mail for mail in mails if mail["To"] == "office"]
+    yield f"{summed}: file", list(parts_of(office)), [attached] if attached else []
+    text = " ".join(text_of(office).split())
+    yield f"{summed}: what else is said", [words in text for words in said], [True] * len(said)
+
+
+def pages_of_widths(widths: list[int]) -> bytes:
+    """A file of pages of these widths, which all have the same strip: a white row of 1728 pels, and an end mark."""
+    bits = WHITE + "000000000001" * 6
+    strip = int(bits + "0" * (-len(bits) % 8), 2).to_bytes(-(-len(bits) // 8), "big")
+    each = 2 + 8 * 12 + 4
+    data, place = b"II*\0" + struct.pack("<I", 8), 8 + len(widths) * each
+    for number, width in enumerate(widths, 1):
+        entries = [(256, 4, 1, width), (257, 4, 1, 1), (258, 3, 1, 1), (259, 3, 1, 3), (262, 3, 1, 0),
+                   (273, 4, 1, place), (278, 4, 1, 1), (279, 4, 1, len(strip))]  # fmt: skip
+        data += directory(entries, len(data) + each if number < len(widths) else 0)
+    return data + strip
+
+
+def much_said_by_hylafax(room: Room) -> Iterator[Claim]:
+    """Mails go out, of which much would be said: more than the environment of a program can have, and a long list."""
+    dispatch = room.get("spool/etc/FaxDispatch")
+    room.put("spool/etc/FaxDispatch", dispatch.replace(b"FILETYPE=pdf", b"FILETYPE="))
+    room.put("spool/recvq/noted.tif", pages_of_widths([1728] * 3200))
+    report = room.report("spool/recvq/noted.tif").decode()
+    yield "many notes", (len(report) > 1 << 17, report.splitlines()[-1]), (True, "pages 3200 rows 3200")
+    _, mails = received_by_hylafax(room, "noted")
+    yield "many notes: mails", [text_of(mail).endswith(report[-1000:]) for mail in mails], [True, True]
+    room.put("spool/recvq/refused.tif", pages_of_widths([1728] + [0] * 300))
+    _, mails = received_by_hylafax(room, "refused")
+    lines = [text_of(mail).splitlines() for mail in mails]
+    first = "Fax of 301 pages: 300 pages are missing."
+    yield "many pages are refused", [(it[0], "page 200: OutOfLimits 256" in it, it[-1]) for it in lines], [
+        (first, True, ".. and 104 lines more")] * 2  # fmt: skip
+    room.put("spool/etc/FaxDispatch", dispatch)
+
+
+def received_by_hylafax(room: Room, kind: str, error: str = "") -> tuple[int, list[email.message.EmailMessage]]:
+    """Lets faxrcvd handle a fax, with an error of its own: its status, and the mails."""
+    words = f"recvq/{kind}.tif ttyS0 000000001 '{error}' 12345 'A `caller`'"
+    status = room.bash(f"cd spool && bash bin/faxrcvd {words}")[0]
     mails = [message(room.get(it)) for it in room.names() if it.startswith("mailed-") and it != "mailed-by"]
     for it in [it for it in room.names() if it.startswith("mailed")]:
         os.remove(room(it))
