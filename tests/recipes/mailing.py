@@ -252,20 +252,32 @@ def parts_of(mail: email.message.EmailMessage) -> dict[str, bytes]:
 
 
 def asterisk(room: Room, commands: str) -> Iterator[Claim]:
-    """The words of System, as Asterisk gives them to a shell, without Asterisk."""
+    """The words of each System, as Asterisk gives them to a shell, without Asterisk."""
     folder = found(r"Set\(FAX=(/var/spool/asterisk/fax)/\$\{UNIQUEID\}\.tif\)", commands).group(1)
-    (words,) = re.findall(r"System\((.*)\)", commands)
-    words = words.replace("${FAX}", f"{folder}/pbx-1764060000.17.tif").replace(folder, room("fax"))
-    yield "all is replaced", "${" in words or "/var" in words.replace(room(""), ""), False
-    for kind, wanted in (("good", 0), ("faulty", 1)):
+    name = "pbx-1764060000.17.tif"
+    calls = [words.replace("${FAX}", f"{folder}/{name}").replace(folder, room("fax"))
+             for words in re.findall(r"System\((.*)\)", commands)]  # fmt: skip
+    yield "all is replaced", ["${" in words or "/var" in words.replace(room(""), "") for words in calls], [False, False]
+    room.tool("sendmail", MAILER)
+    mailer = {"SENDMAIL": f"{room.path}/bin/sendmail"}
+    for kind, wanted, files in (("good", 0, ["fax.pdf"]), ("faulty", 1, ["fax.pdf", "fax.tif"])):
         if kind == "good":
-            room.others("fax/pbx-1764060000.17.tif")
+            room.others(f"fax/{name}")
         else:
-            room.sample("damaged-fourth-page.tif", "fax/pbx-1764060000.17.tif")
-        yield kind, room.call("sh", "-c", words), (wanted, b"", "")
-        yield f"{kind}: is there", room.names(f"fax/{kind}"), ["pbx-1764060000.17.tif", "pbx-1764060000.17.tif.report"]
-    yield "no fax came in", room.call("sh", "-c", words)[0], 3
-    yield "the call had none", room.call("sh", "-c", words.replace(f"{room('fax')}/pbx-1764060000.17.tif", ""))[0], 2
+            room.sample(NOISY, f"fax/{name}")
+        data = room.get(f"fax/{name}")
+        yield kind, [room.call("sh", "-c", words, **mailer) for words in calls], [(wanted, b"", "")] * 2
+        yield f"{kind}: is there", room.contents(f"fax/{kind}").get(name), data
+        yield f"{kind}: its report is", room.names(f"fax/{kind}"), [name, f"{name}.report"]
+        mail = message(room.get("mailed"))
+        first = "Fax of 1 page: readable, 8 of 340 rows are missing" if wanted else "Fax of 5 pages: whole, 29 rows"
+        yield f"{kind}: mailed", (mail["Subject"], sorted(parts_of(mail))), (first, files)
+        os.remove(room("mailed"))
+    for words in calls:
+        yield "no fax came in", room.call("sh", "-c", words, **mailer)[0], 3
+    yield "no fax came in: no mail", os.path.exists(room("mailed")), False
+    without = [words.replace(f"{room('fax')}/{name}", "") for words in calls]
+    yield "the call had none", [room.call("sh", "-c", words, **mailer)[0] for words in without], [2, 2]
 
 
 def mail_gateway(room: Room, commands: str) -> Iterator[Claim]:
@@ -291,6 +303,7 @@ def mail_gateway(room: Room, commands: str) -> Iterator[Claim]:
         "page 4 rows 6 to 11: OutOfRow"]  # fmt: skip
     yield "faulty: no numbers from 0, and of another fax", re.findall("page 3|row 5|1,000|343", text_of(mail)), []
     yield "faulty: title", title_in(room, mail), "fax.tif"
+    yield from mailed_without_pdf(room, commands, mailer)
     yield from summed_up(room, commands, mailer)
     yield from mailed_of_other_kinds(room, commands, mailer)
     for name in [*HOSTILE, "\nBcc: all@example.org\n\n.tif"]:
@@ -313,6 +326,25 @@ def title_in(room: Room, mail: email.message.EmailMessage) -> str:
     room.put("mailed.pdf", parts_of(mail)["fax.pdf"])
     ran = room.call("pdfinfo", "mailed.pdf")[1].decode()
     return found(r"Title: *(.*)", ran).group(1)
+
+
+def mailed_without_pdf(room: Room, commands: str, mailer: dict[str, str]) -> Iterator[Claim]:
+    """Where there can be no PDF of a damaged fax, the mail has a TIFF file of what is salvaged; else what there is."""
+    fax, salvaged = room.get("fax.tif"), room.run("salvage", "-o", "mmr", name="fax.tif")[1]
+    room.tool("faxpages-salvage", "#!/bin/sh\necho 'no room' >&2\nexit 3\n")
+    damaged = "Fax, damaged: salvaged, missing rows are white"
+    for first, files in ((damaged, {"salvaged.tif": salvaged, "fax.tif": fax}),
+                         ("Fax, damaged: what is left of it cannot be shown", {"fax.tif": fax})):  # fmt: skip
+        yield f"{first}: mailed", room.bash(commands, **mailer), (1, b"", "")
+        mail = message(room.get("mailed"))
+        lines = text_of(mail).splitlines()
+        yield first, (mail["Subject"], lines[0], lines[3:]), (
+            first, f"{first}.", ["no room", "pages 3 rows 38", "fault page 4 row 6: OutOfRow"])  # fmt: skip
+        yield f"{first}: files", parts_of(mail), files
+        room.tool("faxpages", f"#!/bin/sh\n[ \"$1 $2\" != 'salvage -o' ] || exit 3\nexec {room.program} \"$@\"\n")
+    room.tool("faxpages", f'#!/bin/sh\nexec {room.program} "$@"\n')
+    os.remove(f"{room.path}/bin/faxpages-salvage")
+    os.symlink(f"{SCRIPTS}/faxpages-salvage", f"{room.path}/bin/faxpages-salvage")
 
 
 def summed_up(room: Room, commands: str, mailer: dict[str, str]) -> Iterator[Claim]:
