@@ -104,6 +104,8 @@ def salvaged_by_hylafax(room: Room) -> Iterator[Claim]:
     yield "office: which file is which", text_of(office).splitlines()[2:4], [
         "The attached file noisy-salvaged has each row that can be read.",
         "Missing rows are grey or white there. The fax as it came is recvq/noisy.tif."]  # fmt: skip
+    said = ["attached" in text_of(mail) for mail in mails if mail["To"] == "FaxMaster"]
+    yield "FaxMaster: nothing is said of files, since there are none", said, [False]
     parts = parts_of(office)
     names = [f"noisy-salvaged.{form}" for form in ("pdf", "tif", "ps")]
     yield "office: files", list(parts), [*names, "noisy.tif"]
