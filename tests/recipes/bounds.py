@@ -75,6 +75,7 @@ def seconds(room: Room, _: str) -> Iterator[Claim]:
         "receive": (["fill.tif", "."], "faxpages-receive: ./fill.tif stays: "),
         "compare": (["fill.tif", "fill.tif"], "faxpages-compare: fill.tif: fault "),
         "from-pdf": (["endless.pdf", "made"], "faxpages-from-pdf: "),
+        "hylafax": (["--salvage", "fill.tif", "made"], "faxpages-hylafax: "),
     }  # fmt: skip
     for script, (words, said) in calls.items():
         bound = {"FAXPAGES_CPU_SECONDS": str(SECONDS), "SENDMAIL": "/bin/false"}

@@ -17,6 +17,7 @@ CALLS: list[tuple[list[str], list[str]]] = [
     (["salvage", "fax.tif", "made"], ["lost.txt", "pages.pdf", "pages.tif", "page-3.png"]),
     (["compare", "fax.tif", "other.tif", "made"], []),
     (["from-pdf", "fax.pdf", "made"], []),
+    (["hylafax", "--salvage", "fax.tif", "made"], ["fax-salvaged.pdf", "fax-salvaged.tif"]),
 ]
 # In which folders a script works: in that of temporary files, and where it writes.
 USES = {"receive": [0, 2], "salvage": [0, 1], "compare": [0, 1], "from-pdf": [0, 1], "sweep": [1]}
@@ -73,7 +74,7 @@ def left(room: Room, _: str) -> Iterator[Claim]:
     calls = {
         "salvage": ["fax.tif", "out/made"], "compare": ["fax.tif", "other.tif", "out/made"],
         "from-pdf": ["fax.pdf", "out/made"], "mail": ["fax.tif", "a@b.c"], "html": ["fax.tif"], "picture": ["fax.tif", "0"], "sweep": ["tree", "out"],
-        "receive": ["other.tif", "sorted"],
+        "receive": ["other.tif", "sorted"], "hylafax": ["--salvage", "fax.tif", "out/made"],
     }  # fmt: skip
     for script, words in calls.items():
         places = [f"tmp/faxpages-{script}", f"work/out/.faxpages-{script}", f"work/sorted/good/.faxpages-{script}"]

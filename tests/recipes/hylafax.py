@@ -3,6 +3,7 @@
 from __future__ import annotations
 
 import os
+import re
 import shutil
 from typing import Iterator
 
@@ -26,6 +27,7 @@ esac
 export FAXPAGES MSG
 """
 # What FaxDispatch does, and what a template gets of it.
+NO_ROOM = "HYLAFAX_TMPDIR: parameter null or not set"
 RUN = """cd "$1" && FILE=fax.tif && TEMPLATE=en && . etc/FaxDispatch && echo "$TEMPLATE" "$FAXPAGES" "$MSG" &&
     grep -c FAXPAGES "etc/templates/$TEMPLATE/faxrcvd-success.txt" """
 
@@ -54,8 +56,10 @@ def scripted(room: Room, _: str) -> Iterator[Claim]:
     added = state(room)
     yield "the administrator's files", {name: added.get(name) for name in before if name != "FaxDispatch"} | {
         "FaxDispatch": added["FaxDispatch"][: len(DISPATCH) + 1]}, before  # fmt: skip
-    report = "pages 3 rows 38\nfault page 3 row 5: OutOfRow fault page 3 row 5: OutOfRow\n1\n"
-    yield "it runs", room.call("bash", "-c", RUN, "-", room(""))[:2], (0, f"faxpages-de {report}".encode())
+    report = "pages 3 rows 38\nfault page 3 row 5: OutOfRow\n(pages and rows numbered from 0)"
+    said = f"faxpages-de {report}\n\n{NO_ROOM} fault page 3 row 5: OutOfRow\n1\n"
+    ran = room.call("bash", "-c", RUN, "-", room(""))
+    yield "it runs", (ran[0], re.sub(r"(?m)^.*: (HYLAFAX_TMPDIR: )", r"\1", ran[1].decode())), (0, said)
     yield "again", (room.call("faxpages-hylafax", "etc"), state(room)), ((0, b"", ""), added)
     yield "nested", [name for name in added if "/faxpages-" in name.replace("templates/faxpages-", "", 1)], []
     yield "taken back", (room.call("faxpages-hylafax", "--remove", "etc"), state(room)), ((0, b"", ""), before)

@@ -59,6 +59,7 @@ CALLS = {
     "HylaFAX": Call("faxpages-hylafax", ("etc",), 3, "rm -rf etc; mkdir -p etc/templates/en; touch etc/templates/en/a.txt"),
     "HylaFAX again": Call("faxpages-hylafax", ("etc",), 3),
     "HylaFAX, taken back": Call("faxpages-hylafax", ("--remove", "etc"), 3, "faxpages-hylafax etc"),
+    "HylaFAX, a damaged fax": Call("faxpages-hylafax", ("--salvage", "damaged.tif", "folder"), 3, "rm -rf folder"),
     "a sweep": Call("faxpages-sweep", ("tree", "state", "figures"), 3, "rm -rf state figures"),
 }
 
@@ -96,10 +97,10 @@ class Noted:
         """The status of a script, and what it says, in a mail too."""
         self.room.bash(f"rm -f mailed; {call.before}")
         files.put(self.log, b"")
-        status, _, said = self.room.call("env", f"PATH={self.folder}", f"{SCRIPTS}/{call.script}", *call.words,
-                                         CALLED=self.log, SENDMAIL=f"{self.room.path}/mailer", **self.room.module)
+        status, shown, said = self.room.call("env", f"PATH={self.folder}", f"{SCRIPTS}/{call.script}", *call.words,
+                                             CALLED=self.log, SENDMAIL=f"{self.room.path}/mailer", **self.room.module)
         mailed = self.room.get("mailed").decode() if os.path.exists(self.room("mailed")) else ""
-        return status, said + mailed
+        return status, said + mailed + (shown.decode() if is_mailed(call) else "")
 
     def called(self) -> List[str]:
         """The programs that the last script called, and those that it called."""
@@ -162,13 +163,20 @@ def without_python(room: Room, _: str) -> Iterator[Claim]:
         yield "all that it calls are in its table", set(re.findall(r'program\("([\w-]+)"\)', file.read())), set(told)
 
 
+def is_mailed(call: Call) -> bool:
+    """Whether HylaFAX mails what a script prints."""
+    return call.words[0] == "--salvage"
+
+
 def status_of(call: Call, program: str) -> int:
-    """The status that a script has without a program. Where what it calls lacks something a mail is sent without its PDF."""
-    with open(f"{SCRIPTS}/faxpages-mail", encoding="utf-8") as file:
-        own = " ".join(re.findall(r"lacking=\$\(missing ([^)]*)\) \|\|", file.read())).split()
-    own += EARLY
+    """The status that a script has without a program. If what it calls lacks something a mail is sent without its PDF."""
+    with open(f"{SCRIPTS}/{call.script}", encoding="utf-8") as file:
+        lists = re.findall(r"lacking=\$\(missing ([^)]*)\) \|\|", file.read())
+    own = {*" ".join(lists[:1] if is_mailed(call) else lists).split(), *EARLY}
     is_damaged = call.script == "faxpages-mail" and "good.tif" not in call.words
-    return 1 if is_damaged and (program not in own or program == "tiff2pdf") else call.status
+    if (is_damaged or is_mailed(call)) and (program not in own or program == "tiff2pdf"):
+        return 0 if is_mailed(call) else 1
+    return call.status
 
 
 def names(said: str, program: str) -> bool:
