@@ -112,8 +112,8 @@ func Convert(file []byte, options Options) ([]byte, error) {
 	}
 }
 
-// SalvagedFile writes a damaged file as a new one: rows that are found, and white ones in place of lost rows, which TIFF-F
-// counts in the fields 326 to 328. Pages without a form are left out; if none has one the bytes are nil.
+// SalvagedFile writes a damaged file as a new one: the rows that are found, and white ones in place of lost rows, which
+// TIFF-F counts in the fields 326 to 328. Pages without a form are left out; if none has one the bytes are nil.
 func (f Fax) SalvagedFile(options Options) ([]byte, error) {
 	given, err := options.given()
 	if err != nil {
