@@ -20,6 +20,7 @@ from ._files import Seen, Stood
 from ._incoming import why_incoming
 from ._lacks import PRINTED, lacks
 from ._marks import Owner, Place
+from ._received import bad_rows, lost_rows
 from .._directory import kind_of
 from .._fax import CODINGS
 from .._told import refusal
@@ -83,6 +84,9 @@ class Found(NamedTuple):
     found: Optional[int] = None
     lost: Optional[int] = None
     seconds: Optional[float] = None
+    bad_rows: Optional[int] = None
+    lost_rows: Optional[int] = None
+    salvaged: Optional[int] = None
 
 
 class Done(NamedTuple):
@@ -336,14 +340,14 @@ def _checked(data: bytes, fax: Waiting) -> Found:
     """The row of a fax by its bytes."""
     report = faxpages.check(data)
     notes = sorted({(note.number, note.name) for note in report.notes})
-    status = FAULTY if report.fault else GOOD
-    width, x, y, codings = _described(data)
-    found = Found(*fax[:3], status, report.pages, report.rows, width, x, y, codings,
-                  " ".join(name for _, name in notes))
+    (width, x, y, codings), listed, whole = _described(data)
+    found = Found(*fax[:3], GOOD, report.pages, report.rows, width, x, y, codings,
+                  " ".join(name for _, name in notes), bad_rows=bad_rows(data, listed) if listed else None, lost_rows=0)
     if report.fault:
         kind = kind_of(data, report.fault)
+        lost = lost_rows(data, report.fault.page, listed) if whole and not kind else None
         return found._replace(status=OTHER if kind else FAULTY, fault=report.fault.name, fault_page=report.fault.page,
-                              fault_row=report.fault.row, fault_tag=report.fault.tag, why=kind)
+                              fault_row=report.fault.row, fault_tag=report.fault.tag, why=kind, lost_rows=lost)
     return found
 
 
@@ -359,8 +363,9 @@ def _counted(data: bytes, found: Found) -> Found:
         return found._replace(why=str(error))
 
 
-def _described(data: bytes) -> Tuple[Optional[int], Optional[float], Optional[float], str]:
-    """The width and the resolution of the first page, and the codings of all that can be listed."""
+def _described(data: bytes) -> Tuple[Tuple[Optional[int], Optional[float], Optional[float], str], int, bool]:
+    """The width and the resolution of the first page, and the codings of all that can be listed; how many these are, and
+    whether there are no others."""
     codings: Dict[str, None] = {}
     first: Tuple[Optional[int], Optional[float], Optional[float]] = (None, None, None)
     told, number, asked, status = _c.Told(), 0, _FORMS, _c.DONE
@@ -376,7 +381,7 @@ def _described(data: bytes) -> Tuple[Optional[int], Optional[float], Optional[fl
         number, asked = number + told.count, min(2 * asked, _MOST_FORMS)
     if status not in (_c.END, _c.FAULT):
         raise refusal(status)
-    return (*first, " ".join(codings))
+    return (*first, " ".join(codings)), number, status == _c.END
 
 
 def _to_the_inch(numerator: int, denominator: int, unit: int) -> float:

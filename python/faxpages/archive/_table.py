@@ -198,6 +198,17 @@ class Table(OnlyCopies):
         found, lost = self._base.execute("SELECT sum(found), sum(lost) FROM faxes").fetchone()
         return found, lost
 
+    def row_counts(self) -> Dict[str, Optional[int]]:
+        """How many bad rows receivers counted, and how many rows are lost; how many faxes have such rows; and of how
+        many faxes that is not known. Where it is known of none, there is no sum."""
+        told: Dict[str, Optional[int]] = {}
+        for name, where in (("bad_rows", "width IS NOT NULL"), ("lost_rows", f"status IN ({GOOD}, {FAULTY})")):
+            rows, faxes, unknown = self._base.execute(
+                f"SELECT iif(count({name}), CAST(total({name}) AS INTEGER), NULL), count(nullif({name}, 0)), "
+                f"ifnull(sum({name} IS NULL AND {where}), 0) FROM faxes").fetchone()
+            told.update({name: rows, f"{name}_faxes": faxes, f"{name}_unknown": unknown})
+        return told
+
     def copied(self, path: bytes) -> Optional[Copied]:
         """What the table knows of the copy of a fax."""
         for row in self._base.execute("SELECT * FROM copies WHERE path = ?", (kept_path(path),)):

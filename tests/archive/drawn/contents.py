@@ -39,6 +39,16 @@ class Verdict(NamedTuple):
 
 def with_field(fax: bytes, tag: int, value: bytes) -> bytes:
     """A fax of one page with one more field of bytes. Where its directory stood are zeros."""
+    return _with_entry(fax, tag, 2, value)
+
+
+def with_number(fax: bytes, tag: int, value: int) -> bytes:
+    """The same with one more field of one LONG."""
+    return _with_entry(fax, tag, 4, struct.pack("<I", value))
+
+
+def _with_entry(fax: bytes, tag: int, kind: int, value: bytes) -> bytes:
+    """The same with a field of bytes, which stand before the directory, or of one number, which the field has itself."""
     (at,) = struct.unpack_from("<I", fax, 4)
     (count,) = struct.unpack_from("<H", fax, at)
     end = at + 2 + ENTRY * count
@@ -46,11 +56,12 @@ def with_field(fax: bytes, tag: int, value: bytes) -> bytes:
     whole = bytearray(fax)
     whole[at:end + 4] = bytes(end + 4 - at)
     whole += bytes(len(whole) % 2)
+    said = struct.pack("<I", 1) + value if kind == 4 else struct.pack("<II", len(value), len(whole))
+    whole += value + bytes(len(value) % 2) if kind != 4 else b""
     place = len(whole)
-    whole += value + bytes(len(value) % 2)
-    entries.append(struct.pack("<HHII", tag, 2, len(value), place))
+    entries.append(struct.pack("<HH", tag, kind) + said)
     entries.sort(key=lambda entry: struct.unpack_from("<H", entry))
-    whole[4:8] = struct.pack("<I", len(whole))
+    whole[4:8] = struct.pack("<I", place)
     return bytes(whole + struct.pack("<H", count + 1) + b"".join(entries) + bytes(4))
 
 
