@@ -1,5 +1,5 @@
-"""bad_rows and lost_rows: what receivers counted, and what salvage does not find, beside what the module and the program
-say of the same faxes; and tables of versions that did not keep them."""
+"""bad_rows and lost_rows: what receivers counted, and what salvage does not find, beside what the module and the
+program say of the same faxes; and tables of versions that did not keep them."""
 
 from __future__ import annotations
 
@@ -80,7 +80,8 @@ def row_counts(room: Room, *_given: object) -> None:
     rows = room.rows("received/t.sqlite")
     got = {path: (rows[path]["bad_rows"], rows[path]["lost_rows"]) for path in paths}
     room.claim("bad_rows and lost_rows", got, {path: by_module(path, rows[path]["status"]) for path in paths})
-    counted = [int(rows[os.fsencode(room(f"received/tree/received-{number}.tif"))]["bad_rows"]) for number in range(len(FIELDS))]
+    received = [os.fsencode(room(f"received/tree/received-{number}.tif")) for number in range(len(FIELDS))]
+    counted = [int(rows[path]["bad_rows"]) for path in received]
     room.claim("bad_rows of fields", counted, [count for _, count in FIELDS])
     mended = [path for path in paths if is_noted(room, path)]
     room.claim("bad_rows, and the notes of check", [path for path in paths if got[path][0] not in ("", "0")] == mended)
@@ -113,7 +114,8 @@ def sums(room: Room, rows: Rows) -> None:
     figures = room.run("table", "received/t.sqlite", "--prometheus")[1].decode()
     for name in ("bad_rows", "lost_rows"):
         known = [int(row[name]) for row in rows.values() if row[name]]
-        unknown = sum(not row["lost_rows"] for row in rows.values() if row["status"] in "01") if name == "lost_rows" else 0
+        read = [row for row in rows.values() if (row["status"] in "01" if name == "lost_rows" else row["width"])]
+        unknown = sum(not row[name] for row in read)
         wanted = {name: sum(known), f"{name}_faxes": sum(map(bool, known)), f"{name}_unknown": unknown}
         room.claim(f"--summary: {name}", {key: summary[key] for key in wanted}, wanted)
         lines = {line.split("{")[0]: line.rpartition(" ")[2] for line in figures.splitlines()}
@@ -128,8 +130,8 @@ def make_late(table: str) -> None:
             base.execute(f"ALTER TABLE faxes DROP COLUMN {name}")
         columns = [row[1] for row in base.execute("PRAGMA table_info(faxes)")]
         rows = base.execute(
-            f"SELECT path, {', '.join(f'faxes.{name}' for name in columns[1:])}, since, checked, run, origin, copies.size, "
-            "copies.mtime, copies.digest, copies.ours, fields_size, fields_mtime, fields_digest, fields_ours, "
+            f"SELECT path, {', '.join(f'faxes.{name}' for name in columns[1:])}, since, checked, run, origin, "
+            "copies.size, copies.mtime, copies.digest, copies.ours, fields_size, fields_mtime, fields_digest, fields_ours, "
             "originals.size, originals.mtime, originals.digest FROM faxes LEFT JOIN times USING (path) "
             "LEFT JOIN copies USING (path) LEFT JOIN originals USING (path)").fetchall()
         base.executemany("UPDATE originals SET sum = ? WHERE path = ?", ((sum_of(*row), row[0]) for row in rows))
@@ -203,8 +205,8 @@ def not_known(room: Room, version: str, table: str) -> None:
 
 
 def turned(room: Room) -> None:
-    """A row of 1.15 that is not as it was written is not brought up to date; nor is a table of 1.16 that says that it is
-    one of 1.15."""
+    """A row of 1.15 that is not as it was written is not brought up to date; nor is a table of 1.16 that says that it
+    is one of 1.15."""
     shutil.copy(room("earlier/new.sqlite"), room("earlier/turned.sqlite"))
     make_late(room("earlier/turned.sqlite"))
     with contextlib.closing(sqlite3.connect(room("earlier/turned.sqlite"))) as base:

@@ -74,7 +74,7 @@ ONLY_SUM = "row_sum(path, digest, fields_digest)"
 _TEMPORARY = """
 CREATE TEMP TABLE waiting (
     path BLOB NOT NULL, size INTEGER NOT NULL, mtime REAL NOT NULL, copy TEXT NOT NULL, fields TEXT NOT NULL,
-    proven INTEGER NOT NULL, digest BLOB NOT NULL);
+    proven INTEGER NOT NULL, digest BLOB NOT NULL, salvaged INTEGER NOT NULL);
 CREATE TEMP TABLE compared (
     path BLOB NOT NULL, device, inode, size, mtime, ctime, copy_device, copy_inode, copy_size, copy_mtime, copy_ctime,
     fields_device, fields_inode, fields_size, fields_mtime, fields_ctime, depth);
@@ -229,7 +229,8 @@ class Database:
         try:
             (noted,) = self._base.execute("SELECT max(value) FROM job NOT INDEXED WHERE name = 'sum'").fetchone()
             by_index = {name: self._value(name) for name, _ in self._job()}
-            return noted in (None, str(self._sum_of_job())) and by_index == dict(self._job())
+            right = noted in (None, str(self._sum_of_job())) and self._value("sum") == noted
+            return right and by_index == dict(self._job())
         finally:
             self._base.execute("COMMIT")
 

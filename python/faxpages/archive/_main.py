@@ -34,7 +34,7 @@ def _do_tree(words: argparse.Namespace) -> int:
     if words.command == "convert":
         target = os.path.abspath(os.fsencode(words.target))
         job = Job(tree, target, words.to, words.order, words.k, words.strip, words.align, words.fields, words.follow,
-                  adopt=words.adopt)
+                  adopt=words.adopt, salvage=words.salvage)
         walk.refuse_one_in_the_other(tree, target)
         if job.fields and not shutil.which("tiffdump"):
             raise TableError("tiffdump is not installed: Debian has it in libtiff-tools")

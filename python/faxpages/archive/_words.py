@@ -61,6 +61,7 @@ def _convert_words(convert: argparse.ArgumentParser) -> None:
     convert.add_argument("--strip", type=_at_least(int, 1), metavar="ROWS")
     convert.add_argument("--align", action="store_true")
     convert.add_argument("--fields", action="store_true", help="write NAME.fields beside each copy, by tiffdump")
+    convert.add_argument("--salvage", action="store_true", help="write what can be salvaged of faulty faxes, too")
     convert.add_argument("--adopt", action="store_true", help="take over files that have the bytes of a copy")
     convert.add_argument("--delete", action="store_true", help="delete the faxes that are copied and compared")
     convert.add_argument("--all-or-nothing", action="store_true",
