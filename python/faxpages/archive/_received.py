@@ -6,7 +6,7 @@ from __future__ import annotations
 
 import ctypes
 import struct
-from typing import Optional
+from typing import Any, Optional
 
 from .. import _library as _c
 from .._directory import Directories, first_of
@@ -20,7 +20,7 @@ _READERS = {
 # The lost rows of a fax with more pages are not counted, since each page takes longer than the one before it.
 _MOST_PAGES = 4096
 # How many rows, stretches of lost rows and bytes one call writes at most.
-_STRETCHES, _BYTES = 2048, 1 << 18
+_STRETCHES, _BYTES = 2048, 1 << 20
 
 
 def bad_rows(data: bytes, pages: int) -> int:
@@ -56,18 +56,20 @@ def lost_rows(data: bytes, first: int, pages: int) -> Optional[int]:
     status = _c.library.faxpages_forms(data, len(data), first, forms, pages - first, told)
     if told.count != pages - first:
         raise refusal(status)
-    return sum(_lost_of(data, first + number, (form.width + 7) // 8) for number, form in enumerate(forms))
+    sizes = [(form.width + 7) // 8 for form in forms]
+    room = ctypes.create_string_buffer(min(_BYTES, max(form.rows * size for form, size in zip(forms, sizes))))
+    stretches = (_c.Lost * _STRETCHES)()
+    return sum(_lost_of(data, first + number, size, room, stretches) for number, size in enumerate(sizes))
 
 
-def _lost_of(data: bytes, page: int, stride: int) -> int:
-    """How many rows of a page, with rows of so many bytes, salvage does not find."""
+def _lost_of(data: bytes, page: int, size: int, room: Any, stretches: Any) -> int:
+    """How many rows of a page, of so many bytes each, salvage does not find."""
     place, runs, told = _c.Place(page, 0, 0, 0), (_c.U32 * _c.RUNS)(), _c.Told()
-    out, lost = ctypes.create_string_buffer(_BYTES), (_c.Lost * _STRETCHES)()
     count, status = 0, _c.DONE
     while status == _c.DONE:
         status = _c.library.faxpages_salvage_from(
-            data, len(data), place, runs, _c.RUNS, out, _BYTES, stride, lost, _STRETCHES, told)
+            data, len(data), place, runs, _c.RUNS, room, len(room), size, stretches, _STRETCHES, told)
         if status not in (_c.DONE, _c.END):
             raise refusal(status)
-        count += sum(stretch.rows for stretch in lost[:told.used])
+        count += sum(stretch.rows for stretch in stretches[:told.used])
     return count
