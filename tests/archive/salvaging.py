@@ -62,7 +62,7 @@ def salvaged(room: Room, *_given: object) -> None:
         put(f"{place}/tree/good.tif", two()[0])
         given = ["convert", f"{place}/tree", f"{place}/copies", "--to", *way, "--table", f"{place}/t.sqlite"]
         room.claim(f"{way}: without it", (room.run(*given)[0], len(os.listdir(f"{place}/copies"))), (1, 1))
-        status, out, error = room.run(*given, "--salvage", "--names")
+        status, _, error = room.run(*given, "--salvage", "--names")
         ending = ".pbm" if way == ["pbm"] else ""
         found = both(place)[1]
         wanted = {os.fsencode(name + ending): of(room, data, *way) for name, data in faxes().items()}
@@ -76,7 +76,7 @@ def salvaged(room: Room, *_given: object) -> None:
         room.claim(f"{way}: the rows", states, ({**faulty, "good.tif": "0"}, {
             **dict.fromkeys(faxes(), "1"), **dict.fromkeys(NO_FORM, "0"), "good.tif": ""}))  # fmt: skip
         room.claim(f"{way}: it is said", error.count("; its copy is a salvaged one\n"), len(faxes()))
-        for words in ([], ["--salvage"]):
+        for words in (list[str](), ["--salvage"]):
             out = room.run(*given, *words)[1].decode()
             room.claim(f"{way}: once more {words}: {out}", "; 0 done now, " in out and both(place)[1] == found)
     counted(room, place)

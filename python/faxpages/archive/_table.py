@@ -429,7 +429,7 @@ class Table(OnlyCopies):
             found = self._base.execute(
                 "SELECT rowid, * FROM waiting WHERE rowid > ? ORDER BY rowid LIMIT ?", (last, count)).fetchall()
             last = found[-1][0] if found else last
-            return [Waiting(*row[1:6], bool(row[6]), row[7], bool(row[8])) for row in found]
+            return [Waiting._make((*row[1:6], bool(row[6]), row[7], bool(row[8]))) for row in found]
 
         return take
 

@@ -38,11 +38,10 @@ def make(episode: Episode, job: Job) -> None:
         _forget(ones)
     for copy in list(_unmark(episode, numbers)):
         model.only.pop(copy, None)
-    for name, entry in snapshot(episode.world.target).items():
-        if entry.data in model.teller.pieces:
-            # 1.5.2 wrote none: from now on it is not known whose it is.
-            for table in (it.table for it in episode.jobs[1:]):
-                model.maybe.setdefault(table, set()).add(name)
+    # 1.5.2 wrote no salvaged copies: from now on it is not known whose they are.
+    left = {copy for copy, entry in snapshot(episode.world.target).items() if entry.data in model.teller.pieces}
+    for table in (it.table for it in episode.jobs[1:]):
+        model.maybe.setdefault(table, set()).update(left)
     if job.folds:
         # No mark has a name by now.
         for table in (it.table for it in episode.jobs[1:]):
