@@ -11,8 +11,8 @@ from typing import TYPE_CHECKING, Dict, FrozenSet, List, Optional, Set, Tuple
 
 from tests.archive.drawn.contents import Verdict, digest
 from tests.archive.drawn.model import (
-    GOOD, NOT_READ, Fax, Job, Model, Original, Row, Stood, Words, about_to_go, deleted_in, has_turned, knows_copies,
-    originals_of, rows_of, see, status_of, where_in,
+    FAULTY, GOOD, NOT_READ, Fax, Job, Model, Original, Row, Stood, Words, about_to_go, deleted_in, has_turned,
+    knows_copies, originals_of, rows_of, see, status_of, where_in,
 )
 from tests.archive.drawn.playing import Ran, Trouble
 from tests.archive.drawn.world import Entry, World, folded, snapshot
@@ -417,6 +417,7 @@ class Comparison:
             if self._is_sure(path):
                 wanted = self.outcomes[path]
                 self.claim(row.verdict == wanted, f"{path!r}: {row.verdict}, wanted {wanted}{self._about(path)}")
+            self._counted(path, row, fax)
             if row.verdict.status == GOOD and not row.stays:
                 self.claim(row.salvaged is None, f"good, and its copy is a salvaged one: {path!r}")
                 self._note_good(path, fax)
@@ -424,6 +425,14 @@ class Comparison:
                 self._note_salvaged(path)
         for path in set(self.before.rows) - set(self.after.rows):
             self.claim(path not in faxes or self.words.delete, f"a row is lost: {path!r}")
+
+    def _counted(self, path: bytes, row: Row, fax: Fax) -> None:
+        """A row that this run has written of a fax that it has read has the numbers of its bad and lost rows."""
+        was = self.before.rows.get(path)
+        written = was is None or was.run != row.run
+        if written and fax.data is not None and row.verdict.status in (GOOD, FAULTY) and self.beside is None:
+            wanted = self.model.teller.counts(fax.data)
+            self.claim(row.counts == wanted, f"the rows of {path!r}: {row.counts}, wanted {wanted}")
 
     def _originals(self) -> None:
         """The digest of each fax that was read is kept; of one whose bits have turned, that of what it was."""

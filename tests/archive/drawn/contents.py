@@ -176,6 +176,7 @@ class Teller:
         self.copy = functools.lru_cache(maxsize=4096)(self._copy)
         self.salvaged = functools.lru_cache(maxsize=4096)(self._salvaged)
         self.fields = functools.lru_cache(maxsize=4096)(self._fields)
+        self.counts = functools.lru_cache(maxsize=None)(self._counts)
         # All that was salvaged.
         self.pieces: Set[bytes] = set()
 
@@ -197,6 +198,18 @@ class Teller:
         ran = subprocess.run([self._program, "salvage", "-o", *words], input=data, capture_output=True, check=False)
         self.pieces.update([ran.stdout] if ran.stdout else [])
         return ran.stdout or None
+
+    def _counts(self, data: bytes) -> Tuple[Optional[int], Optional[int]]:
+        """How many bad rows receivers counted on the pages that can be listed; and how many rows are lost, where all
+        pages can be listed."""
+        counted, lost = list[int](), 0
+        try:
+            for page in self._faxpages.Fax(data).pages:
+                counted.append(page.received.bad_rows or int(bool(page.received.clean)))
+                lost += sum(stretch.rows for stretch in page.salvaged().lost)
+        except self._faxpages.FaxError:
+            return sum(counted) if counted else None, None
+        return sum(counted), lost
 
     def _fields(self, data: bytes, name: bytes) -> bytes:
         """The fields as tiffdump prints them, under a name."""

@@ -71,7 +71,8 @@ class Fax(NamedTuple):
 
 class Row(NamedTuple):
     """A row of a table, which run wrote it, and whether it is of a fax that stays though it was to be deleted, so that
-    the table knows of no copy; and whether its copy is a salvaged one, or nothing can be salvaged."""
+    the table knows of no copy; whether its copy is a salvaged one, or nothing can be salvaged; and how many bad and
+    lost rows it has."""
 
     size: int
     mtime: float
@@ -80,6 +81,7 @@ class Row(NamedTuple):
     run: int
     stays: bool = False
     salvaged: Optional[int] = None
+    counts: Tuple[Optional[int], Optional[int]] = (None, None)
 
 
 class Original(NamedTuple):
@@ -175,13 +177,14 @@ def answers(table: str, query: str) -> List[Tuple[Any, ...]]:
 
 def rows_of(table: str) -> Table:
     """What a table says."""
-    salvaged = "salvaged" if version_of(table) >= WITH_SALVAGED else "NULL"
+    later = "salvaged, bad_rows, lost_rows" if version_of(table) >= WITH_SALVAGED else "NULL, NULL, NULL"
     found = answers(table, "SELECT CAST(path AS BLOB), size, mtime, status, fault, fault_page, fault_row, fault_tag, "
-                         f"lacks, run, status = 0 AND path NOT IN (SELECT path FROM copies), {salvaged} "
+                         f"lacks, run, status = 0 AND path NOT IN (SELECT path FROM copies), {later} "
                          "FROM faxes JOIN times USING (path)")
     last = answers(table, "SELECT number, words, ended IS NOT NULL AND NOT unread, ended IS NOT NULL FROM runs "
                         "ORDER BY number DESC LIMIT 1")
-    rows = {row[0]: Row(row[1], row[2], Verdict(*row[3:8]), row[8], row[9], bool(row[10]), row[11]) for row in found}
+    rows = {row[0]: Row(row[1], row[2], Verdict(*row[3:8]), row[8], row[9], bool(row[10]), row[11], row[12:])
+            for row in found}
     if version_of(table) < WITH_OTHERS:
         rows = {path: row._replace(verdict=_of_other_kinds(row.verdict)) for path, row in rows.items()}
     return rows, (last[0][0], last[0][1], bool(last[0][2]), bool(last[0][3])) if last else None
