@@ -183,8 +183,8 @@ def rows_of(table: str) -> Table:
                          "FROM faxes JOIN times USING (path)")
     last = answers(table, "SELECT number, words, ended IS NOT NULL AND NOT unread, ended IS NOT NULL FROM runs "
                         "ORDER BY number DESC LIMIT 1")
-    rows = {row[0]: Row(row[1], row[2], Verdict(*row[3:8]), row[8], row[9], bool(row[10]), row[11], row[12:])
-            for row in found}
+    rows = {row[0]: Row(row[1], row[2], Verdict(*row[3:8]), row[8], row[9], bool(row[10]), row[11],
+                        (row[12], row[13])) for row in found}
     if version_of(table) < WITH_OTHERS:
         rows = {path: row._replace(verdict=_of_other_kinds(row.verdict)) for path, row in rows.items()}
     return rows, (last[0][0], last[0][1], bool(last[0][2]), bool(last[0][3])) if last else None
