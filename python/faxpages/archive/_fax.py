@@ -393,7 +393,7 @@ def _salvaged_file(data: bytes, job: Job) -> Optional[bytes]:
     too large."""
     try:
         return faxpages.Fax(data).salvaged_file(job.to, job.order, job.k, job.strip, job.align)
-    except faxpages.FaxError:
+    except faxpages.OutputTooLarge:
         return None
 
 
