@@ -4,8 +4,8 @@
 _faxpages_command_options() {
     case $1 in
     faxpages-archive-check) echo --table --dask --scheduler --processes --timeout --again --share --follow --renew --gone --names --faults-ok --lost ;;
-    faxpages-archive-convert) echo --to --order --k --strip --align --fields --adopt --delete --all-or-nothing --give-up --table --dask --scheduler --processes --timeout --again --share --follow --renew --gone --names --faults-ok ;;
-    faxpages-archive-table) echo --csv --json --summary --prometheus --faulty ;;
+    faxpages-archive-convert) echo --to --order --k --strip --align --fields --salvage --adopt --delete --all-or-nothing --give-up --table --dask --scheduler --processes --timeout --again --share --follow --renew --gone --names --faults-ok ;;
+    faxpages-archive-table) echo --csv --json --summary --prometheus --faulty --mended ;;
     faxpages-archive-verify) echo --table --dask --scheduler --processes --timeout --gone --names ;;
     faxpages-compare) echo --replace ;;
     faxpages-from-pdf) echo --standard --as-is --coding --width --replace ;;

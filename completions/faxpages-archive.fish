@@ -20,10 +20,10 @@ complete -c faxpages-archive -n '__fish_seen_subcommand_from convert' -l order -
 for option in k strip give-up
     complete -c faxpages-archive -n '__fish_seen_subcommand_from convert' -l $option -x
 end
-for option in align fields adopt delete all-or-nothing
+for option in align fields salvage adopt delete all-or-nothing
     complete -c faxpages-archive -n '__fish_seen_subcommand_from convert' -l $option
 end
-for option in csv json summary prometheus faulty
+for option in csv json summary prometheus faulty mended
     complete -c faxpages-archive -n '__fish_seen_subcommand_from table' -l $option
 end
 

@@ -47,7 +47,10 @@ class Directories:
 
     def entries(self, number: int) -> List[Entry]:
         """The fields of a directory, of which all before have been found good."""
-        at = self._place(number)
+        return self.entries_at(self._place(number))
+
+    def entries_at(self, at: int) -> List[Entry]:
+        """The fields of the directory in a place."""
         (count,) = self.numbers("H", at)
         # One look at all fields takes a third of the time of one at each.
         told = struct.iter_unpack(self._order + "HHII", self._piece(at + 2, 12 * count))
@@ -85,9 +88,9 @@ class Directories:
             if 0 in self.numbers("II", entry.at):
                 return False
         unit = found.get(UNIT)
-        return unit is None or self._first(unit) in (1, 2, 3)
+        return unit is None or self.first_value(unit) in (1, 2, 3)
 
-    def _first(self, entry: Entry) -> Optional[int]:
+    def first_value(self, entry: Entry) -> Optional[int]:
         """The first value of a field of SHORT or LONG, where it is in the file."""
         if entry.kind not in (SHORT, _LONG) or not entry.values or entry.at + SIZES[entry.kind] > len(self.data):
             return None

@@ -93,7 +93,7 @@ def names(room: Room, paths: list[bytes], reference: Rows) -> None:
     room.claim("JSON has each name", (status, [
         os.path.join(tree, line["path"].encode("utf-8", "surrogateescape")) for line in lines]), (0, sorted(paths)))
     wanted = ("path size mtime status pages rows width x y codings notes fault fault_page fault_row fault_tag why "
-              "lacks found lost seconds")
+              "lacks found lost seconds bad_rows lost_rows salvaged")
     room.claim("JSON has the columns", {tuple(line) for line in lines}, {tuple(wanted.split())})
     room.claim("CSV has the columns", room.run("table", "one.sqlite", "--csv")[1].split(b"\n")[0].decode().split(","),
                wanted.split())

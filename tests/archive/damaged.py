@@ -254,6 +254,8 @@ def of_itself(room: Room, *_given: object) -> None:
         room.claim(f"{statement}: {error}", (status, "copy.sqlite is damaged: " in error), (3, True))
     count = found_at_each(room, "damaged-job", rb"only(?!_)", 1, 0x08)
     room.claim("its names stand in the table and in its index", count >= 2)
+    count = found_at_each(room, "damaged-sum", rb"(?<![a-z_ ])sum(?![ a-z_])", 1, 0x04)
+    room.claim("its sum stands in the table and in its index", count >= 2)
 
 
 def renewed_amid(room: Room, *_given: object) -> None:

@@ -22,7 +22,8 @@ KINDS = {
     "tiles": (["-t", "-w", "16", "-l", "16", "-c", "g4"], "a picture in tiles"),
     "big": (["-8"], "a BigTIFF file, or none in TIFF"),
 }  # fmt: skip
-# The columns of a table of version 1.5.
+# The columns that versions before 1.16 did not keep, and those of a table of version 1.5.
+NEW_COLUMNS = ("bad_rows", "lost_rows", "salvaged")
 OLD = ("path, size, mtime, status, pages, rows, width, x, y, codings, notes, fault, fault_page, fault_row, fault_tag, why, "
        "lacks, seconds")
 
@@ -113,11 +114,11 @@ def older(room: Room, check: list[str], rows: dict[str, dict[str, str]]) -> None
     for way in ("as it stands", "brought up to date"):
         found = {os.path.basename(path).decode()[:-4]: row["status"] for path, row in room.rows("kinds/t.sqlite").items()}
         room.claim(f"a table of 1.5, {way}", found, wanted)
-        version = 2 if way == "as it stands" else 4
+        version = 2 if way == "as it stands" else 5
         room.claim(f"a table of 1.5, {way}: its version", ask(room, "kinds/t.sqlite", "PRAGMA user_version"), [(version,)])
         out = room.run(*check)[1].decode()
         room.claim(f"a table of 1.5, {way}: goes on", f"; 0 done now, {len(rows)} before, 0 gone" in out)
-    room.run(*check, "--again", "faulty")
+    room.run(*check, "--again", "all")
     whole = {os.path.basename(path).decode()[:-4]: dict(row) for path, row in room.rows("kinds/t.sqlite").items()}
     room.claim("a table of 1.5: looked at again", whole, rows)
 

@@ -21,6 +21,7 @@ from tests import MODULE
 from tests.archive import made
 from tests.archive.checking import OTHER_USER, Caller, add, few
 from tests.archive.keeping import convert, drawn, put
+from tests.archive.kinds import NEW_COLUMNS
 from tests.archive.room import CONNECT, Part, Room, Rows, count
 from tests.waiting import wait_for
 
@@ -70,7 +71,7 @@ def clocks(room: Room, *_given: object) -> None:
     # As a version before sums left it, so that its rows may be changed.
     change(room, "clock-0.sqlite", "UPDATE times SET checked = checked + 4e7, since = since + 4e7",
            "DROP TABLE originals", "DROP TABLE only_copies", "DELETE FROM job WHERE name = 'sum'",
-           "PRAGMA user_version = 3")
+           *(f"ALTER TABLE faxes DROP COLUMN {name}" for name in NEW_COLUMNS), "PRAGMA user_version = 3")
     parts = ["clock-0.sqlite", "clock-1.sqlite"]
     room.run("merge", "clock.sqlite", *parts)
     before = room.rows("clock.sqlite")

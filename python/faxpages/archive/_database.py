@@ -9,23 +9,28 @@ import sys
 import time
 import urllib.parse
 import zlib
-from typing import Any, Iterable, List, Optional, Set, Tuple, Union
+from typing import Any, Iterable, List, Optional, Sequence, Set, Tuple, Union
 
 from . import _files as files
 from ._fax import FAULTY, OTHER, Found
 
 COLUMNS = Found._fields
+# Those that versions before 1.16 did not keep. In their rows they are empty, which says that this is not known.
+_NEW_COLUMNS = ("bad_rows", "lost_rows", "salvaged")
 # A commit waits for the disk: at most one a second.
 _COMMIT = 1.0
 # How long a commit waits for a reader before the run goes on, and how long all else waits for a writer.
 _WAIT, _LONG = 0.25, 60.0
-# Of versions before 1.6, whose tables are read as they stand, and brought up to date where they are written.
-_BEFORE, _BEFORE_DIGESTS, _FORMAT = 2, 3, 4
+# Of versions before 1.6, 1.12 and 1.16, whose tables are read as they stand, and brought up to date where they are
+# written.
+_BEFORE, _BEFORE_DIGESTS, _BEFORE_RECEIVED, _FORMAT = 2, 3, 4, 5
+_WITH_SUMS = (_BEFORE_RECEIVED, _FORMAT)
 _SCHEMA = """
 CREATE TABLE IF NOT EXISTS faxes (
     path PRIMARY KEY NOT NULL, size INTEGER, mtime REAL, status INTEGER NOT NULL, pages INTEGER, rows INTEGER,
     width INTEGER, x REAL, y REAL, codings TEXT, notes TEXT, fault TEXT, fault_page INTEGER, fault_row INTEGER,
-    fault_tag INTEGER, why TEXT, lacks TEXT, found INTEGER, lost INTEGER, seconds REAL);
+    fault_tag INTEGER, why TEXT, lacks TEXT, found INTEGER, lost INTEGER, seconds REAL, bad_rows INTEGER,
+    lost_rows INTEGER, salvaged INTEGER);
 CREATE TABLE IF NOT EXISTS times (
     path PRIMARY KEY NOT NULL, since REAL NOT NULL, checked REAL NOT NULL, run INTEGER NOT NULL, origin TEXT NOT NULL);
 CREATE TABLE IF NOT EXISTS copies (
@@ -48,11 +53,17 @@ CREATE TABLE IF NOT EXISTS {0}only_copies (
     path PRIMARY KEY NOT NULL, digest TEXT, fields_digest TEXT, fault TEXT, why TEXT, verified REAL,
     run INTEGER NOT NULL, sum INTEGER);
 """
-# The sum of a row, with what is known of its fax and of its copy.
-_SUMMED = ", ".join(["path", *(f"faxes.{name}" for name in COLUMNS[1:]), "since", "checked", "run", "origin", *(
-    f"copies.{name}" for name in ("size", "mtime", "digest", "ours", "fields_size", "fields_mtime", "fields_digest",
-                                  "fields_ours")), "originals.size", "originals.mtime", "originals.digest"])
-_SUM = f"row_sum({_SUMMED})"
+
+
+def _sum_with(columns: Sequence[str]) -> str:
+    """The sum of a row with these columns, and with what is known of its fax and of its copy."""
+    return "row_sum({})".format(", ".join(["path", *(f"faxes.{name}" for name in columns[1:]), *(
+        "since", "checked", "run", "origin"), *(f"copies.{name}" for name in (
+            "size", "mtime", "digest", "ours", "fields_size", "fields_mtime", "fields_digest", "fields_ours")), *(
+                "originals.size", "originals.mtime", "originals.digest")]))
+
+
+_SUM, _OLD_SUM = _sum_with(COLUMNS), _sum_with([name for name in COLUMNS if name not in _NEW_COLUMNS])
 _JOINED = ("faxes LEFT JOIN times USING (path) LEFT JOIN copies USING (path) LEFT JOIN originals USING (path)")
 # The rows of a table whose path is not the one by which its index finds them: of a row that is found by the index, SQLite
 # takes the path from there.
@@ -63,17 +74,19 @@ ONLY_SUM = "row_sum(path, digest, fields_digest)"
 _TEMPORARY = """
 CREATE TEMP TABLE waiting (
     path BLOB NOT NULL, size INTEGER NOT NULL, mtime REAL NOT NULL, copy TEXT NOT NULL, fields TEXT NOT NULL,
-    proven INTEGER NOT NULL, digest BLOB NOT NULL);
+    proven INTEGER NOT NULL, digest BLOB NOT NULL, salvaged INTEGER NOT NULL);
 CREATE TEMP TABLE compared (
     path BLOB NOT NULL, device, inode, size, mtime, ctime, copy_device, copy_inode, copy_size, copy_mtime, copy_ctime,
     fields_device, fields_inode, fields_size, fields_mtime, fields_ctime, depth);
 CREATE INDEX temp.compared_depths ON compared (depth DESC);
 """
-# The rows of a table of before: what was no fax that is read here was called faulty.
+_EMPTY = {name: f"NULL AS {name}" for name in _NEW_COLUMNS}
+# The rows of a table before 1.16; and before 1.6, where what is no fax that is read here was called faulty.
+_LATE_ROWS = ", ".join(_EMPTY.get(name, name) for name in COLUMNS)
 _OF_OTHERS = f"status = {FAULTY} AND fault IN ('Unsupported', 'Magic', 'ByteOrder')"
 _OLD_ROWS = ", ".join({
     "status": f"CASE WHEN {_OF_OTHERS} THEN {OTHER} ELSE status END AS status", "found": "NULL AS found",
-    "lost": "NULL AS lost"}.get(name, name) for name in COLUMNS)
+    "lost": "NULL AS lost", **_EMPTY}.get(name, name) for name in COLUMNS)
 PUT_COPY = "INSERT OR REPLACE INTO copies VALUES (?, ?, ?, ?, ?, ?, ?, ?, ?)"
 
 # What SQLite says of a database with tables or texts that are none.
@@ -152,24 +165,29 @@ class Database:
     def _read_as_it_stands(self) -> None:
         """Has a table of an earlier version be read."""
         self._refuse_foreign()
-        if self._format() not in (_BEFORE, _BEFORE_DIGESTS, _FORMAT):
+        if self._format() not in (_BEFORE, _BEFORE_DIGESTS, _BEFORE_RECEIVED, _FORMAT):
             raise TableError(f"{self.name} is none of this version's tables; a run of check or convert makes it one")
-        if self._format() != _FORMAT:
+        if self._format() not in _WITH_SUMS:
             self._base.executescript(_SINCE.format("temp."))
-        if self._format() == _BEFORE:
-            self._base.execute(f"CREATE TEMP VIEW faxes AS SELECT {_OLD_ROWS} FROM main.faxes")
+        if self._format() != _FORMAT:
+            rows = _OLD_ROWS if self._format() == _BEFORE else _LATE_ROWS
+            self._base.execute(f"CREATE TEMP VIEW faxes AS SELECT {rows} FROM main.faxes")
 
     def _look(self) -> None:
         """Looks whether the database is whole, and each of its rows as it was written. Damaged: it is not."""
         try:
-            # A table of an earlier version has no sums, so that its indexes are looked at here.
-            check = "quick_check" if self._format() == _FORMAT else "integrity_check"
+            # A table of a version before 1.12 has no sums, so that its indexes are looked at here.
+            check = "quick_check" if self._format() in _WITH_SUMS else "integrity_check"
             (said,) = self._base.execute(f"PRAGMA {check}(1)").fetchone()
             damage = [] if said == "ok" else [str(said).replace("\n", " ")]
             if not damage and not _may_be_written(self.name):
                 damage = ["it says that it cannot be written"]
             if not damage:
-                damage = self._damaged_rows() if self._format() == _FORMAT else self._not_of_its_version()
+                version = self._format()
+                damage = self._not_of_its_version() or self._damaged_rows()
+                if damage and self._format() != version:
+                    # A run has just brought it up to date.
+                    damage = self._damaged_rows()
         except UnicodeDecodeError:
             # SQLite names what it cannot read, by bytes that Python cannot show.
             damage = ["what says which tables it has is no text"]
@@ -180,13 +198,19 @@ class Database:
         """What is said of a table that has what only later versions than its own kept; nothing where it has none."""
         later = {0: "copies", _BEFORE: "originals", _BEFORE_DIGESTS: "originals"}.get(self._format())
         found = self._base.execute("SELECT 1 FROM sqlite_master WHERE name = ?", (later,)).fetchone()
+        if self._format() == _BEFORE_RECEIVED:
+            found = self._base.execute("SELECT 1 FROM pragma_table_info('faxes') WHERE name = ?",
+                                       _NEW_COLUMNS[:1]).fetchone()
         return ["its version is another one than it was written by"] if found is not None else []
 
     def _damaged_rows(self) -> List[str]:
-        """What is said of rows that are not as they were written; nothing where all are."""
+        """What is said of rows that are not as they were written; nothing where all are, or no sums are kept."""
+        if self._format() not in _WITH_SUMS:
+            return []
         if not self._is_job_right():
             return ["what it says of itself is not as it was written"]
-        for rows in (f"{_JOINED} WHERE originals.sum IS NOT {_SUM}",
+        right = _SUM if self._format() == _FORMAT else _OLD_SUM
+        for rows in (f"{_JOINED} WHERE originals.sum IS NOT {right}",
                      *(f"{name} NOT INDEXED WHERE path NOT IN (SELECT path FROM faxes)"
                        for name in ("times", "copies", "originals")),
                      *(_UNLIKE_ITS_INDEX.format(name)
@@ -205,7 +229,8 @@ class Database:
         try:
             (noted,) = self._base.execute("SELECT max(value) FROM job NOT INDEXED WHERE name = 'sum'").fetchone()
             by_index = {name: self._value(name) for name, _ in self._job()}
-            return noted in (None, str(self._sum_of_job())) and by_index == dict(self._job())
+            right = noted in (None, str(self._sum_of_job())) and self._value("sum") == noted
+            return right and by_index == dict(self._job())
         finally:
             self._base.execute("COMMIT")
 
@@ -253,7 +278,7 @@ class Database:
     def _refuse_foreign(self) -> None:
         """Refuses a database whose tables are not those of an archive, or of a version that is not known."""
         tables = {str(name) for (name,) in self._base.execute("SELECT name FROM sqlite_master")}
-        known = self._format() in (0, _BEFORE, _BEFORE_DIGESTS, _FORMAT)
+        known = self._format() in (0, _BEFORE, _BEFORE_DIGESTS, _BEFORE_RECEIVED, _FORMAT)
         if not known or tables and not {"faxes", "times", "job"} <= tables:
             raise TableError(f"{self.name} is a database of another program, or of a later version, and stays as it is")
 
@@ -269,6 +294,9 @@ class Database:
             self._renew()
         elif self._format() == 0:
             self._begin_anew()
+        else:
+            for name in _NEW_COLUMNS:
+                self._base.execute(f"ALTER TABLE faxes ADD COLUMN {name} INTEGER")
         for name in ("times", "copies"):
             self._base.execute(f"DELETE FROM {name} WHERE path NOT IN (SELECT path FROM faxes)")
         self._base.execute(f"INSERT INTO originals (path, sum) SELECT path, {_SUM} FROM {_JOINED} WHERE true "

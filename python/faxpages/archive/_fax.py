@@ -10,7 +10,7 @@ import os
 import stat
 import subprocess
 import time
-from typing import Any, Dict, Iterator, List, NamedTuple, Optional, Tuple
+from typing import Any, Callable, Dict, Iterator, List, NamedTuple, Optional, Tuple
 
 import faxpages
 
@@ -20,6 +20,7 @@ from ._files import Seen, Stood
 from ._incoming import why_incoming
 from ._lacks import PRINTED, lacks
 from ._marks import Owner, Place
+from ._received import bad_rows, lost_rows
 from .._directory import kind_of
 from .._fax import CODINGS
 from .._told import refusal
@@ -31,6 +32,8 @@ _FORMS, _MOST_FORMS = 16, 65536
 # What comes of a fax: it is good, it has a fault, it is no fax that is read here, or it cannot be read or written.
 GOOD, FAULTY, OTHER, NOT_READ = 0, 1, 2, 3
 _TURNED = "it has other bytes than before, and the same size and time of change"
+# Why a faulty fax has no salvaged copy, though one is asked for.
+WHOLE = "its copy of before stays"
 # What the name of a copy's fields ends with.
 FIELDS = b".fields"
 # A system counts the times of files in steps, of a hundredth of a second at most: what is written in one has one time.
@@ -48,8 +51,8 @@ class NoWorker(Exception):
 class Waiting(NamedTuple):
     """A fax that is due: its path below the tree, its size and mtime when it was found, the digests that the table
     knows of its copy and of the copy's fields, whether the copy is of this fax as it is, so that a copy which has
-    that digest need not be made again, and the digest of its own bytes as they were read before, with that size and
-    mtime."""
+    that digest need not be made again, the digest of its own bytes as they were read before, with that size and
+    mtime, and whether the copy is a salvaged one."""
 
     path: bytes
     size: int
@@ -58,6 +61,7 @@ class Waiting(NamedTuple):
     fields: str = ""
     proven: bool = False
     digest: bytes = b""
+    salvaged: bool = False
 
 
 class Found(NamedTuple):
@@ -83,6 +87,9 @@ class Found(NamedTuple):
     found: Optional[int] = None
     lost: Optional[int] = None
     seconds: Optional[float] = None
+    bad_rows: Optional[int] = None
+    lost_rows: Optional[int] = None
+    salvaged: Optional[int] = None
 
 
 class Done(NamedTuple):
@@ -101,7 +108,7 @@ class Done(NamedTuple):
 class Job(NamedTuple):
     """What is done with each fax below a tree: a check; or, where a target is named, a conversion; or a comparison
     with the copy that is there; or only a look at its copy, where it was deleted. owner is whose copies are ours;
-    adopt takes over copies that have the right bytes; lost counts the rows of faulty faxes."""
+    adopt takes over copies that have the right bytes; lost counts the rows of faulty faxes, and salvage copies them."""
 
     tree: bytes
     target: Optional[bytes] = None
@@ -117,6 +124,7 @@ class Job(NamedTuple):
     adopt: bool = False
     lost: bool = False
     verify: bool = False
+    salvage: bool = False
 
     def copy_of(self, path: bytes) -> bytes:
         """The file below the target that a fax is converted into."""
@@ -165,8 +173,11 @@ class Job(NamedTuple):
             digest = b""
         if self.lost and found.status == FAULTY:
             found = _counted(data, found)
-        good = self.target is not None and found.status == GOOD
-        done = self._converted(data, fax, told, found) if good else Done(found)
+        done = Done(found)
+        if self.target is not None and found.status == GOOD:
+            done = self._converted(found, lambda row: self._copied(data, fax, told, row))
+        elif self.salvage and found.status == FAULTY and digest:
+            done = self._converted(found, lambda row: self._salvaged(data, fax, told, row))
         return done._replace(digest=digest or None)
 
     def _verified(self, fax: Waiting) -> Done:
@@ -180,23 +191,44 @@ class Job(NamedTuple):
                 return Done(Found(*fax[:3], status, fault=fault, why=why))
         return Done(Found(*fax[:3], GOOD))
 
-    def _converted(self, data: bytes, fax: Waiting, told: os.stat_result, found: Found) -> Done:
+    def _copied(self, data: bytes, fax: Waiting, told: os.stat_result, found: Found) -> Done:
         """What comes of a good fax: its copy is written."""
         found = found._replace(lacks=lacks(data, found.notes or "", self.to, self.fields))
         try:
             copy, fields = self._written(data, fax, told)
-            return Done(found, copy, fields)
+            return Done(found._replace(salvaged=None), copy, fields)
         except faxpages.OutputTooLarge:
-            return Done(found._replace(status=FAULTY, fault="OutputTooLarge"))
+            none = found.salvaged or (0 if self.salvage else None)
+            return Done(found._replace(status=FAULTY, fault="OutputTooLarge", salvaged=none))
+
+    def _salvaged(self, data: bytes, fax: Waiting, told: os.stat_result, found: Found) -> Done:
+        """What comes of a faulty fax: what can be salvaged of it is written, unless a whole copy stands there. It stays
+        faulty, and no fields are written."""
+        made = _salvaged_file(data, self)
+        if made is None:
+            # What is known of a copy stays.
+            return Done(found if found.salvaged else found._replace(salvaged=0))
+        name = self.copy_of(fax.path)
+        copy = files.Copy(made, told, name, fax.copy, self.owner, self.adopt, True, fax.salvaged)
+        try:
+            with self.target_root().place(name, self.tree) as place:
+                stood = files.put(place, copy, lambda written: written == made)
+            return Done(found._replace(salvaged=1), stood)
+        except files.Whole:
+            return Done(found._replace(why=WHOLE))
+
+    def _converted(self, found: Found, write: Callable[[Found], Done]) -> Done:
+        """What comes of a fax whose copy is to be written; why it is not, where it is not."""
+        try:
+            return write(found)
         except _NotWritten as error:
-            fault, why = error.args
-            return Done(found._replace(status=NOT_READ, fault=fault, why=why))
+            return Done(_not_copied(found, *error.args))
         except files.NotOurs as error:
-            return Done(found._replace(status=NOT_READ, fault="Exists", why=str(error)))
+            return Done(_not_copied(found, "Exists", str(error)))
         except files.NotRight:
-            return Done(found._replace(status=NOT_READ, fault="RowsDiffer"))
+            return Done(_not_copied(found, "RowsDiffer"))
         except OSError as error:
-            return Done(found._replace(status=NOT_READ, fault="Write", why=error.strerror))
+            return Done(_not_copied(found, "Write", error.strerror))
 
     def _written(self, data: bytes, fax: Waiting, told: os.stat_result) -> Tuple[Stood, Optional[Stood]]:
         """The copy of a fax, and its fields where they are asked for, as they stand in the end."""
@@ -243,9 +275,11 @@ class Job(NamedTuple):
             return Done(not_read(fax, *error.args))
         except OSError as error:
             return Done(not_read(fax, "NoCopy", why=error.strerror))
-        if not _has_rows(written, data):
+        report = faxpages.check(data)
+        # What is salvaged of a faulty fax is no copy, whatever rows it has.
+        if report.fault or not _has_rows(written, data):
             return Done(not_read(fax, "RowsDiffer"))
-        notes = " ".join(note.name for note in faxpages.check(data).notes)
+        notes = " ".join(note.name for note in report.notes)
         row = Found(*fax[:3], GOOD, lacks=lacks(data, notes, self.to, self.fields))
         return Done(row, copy, fields, files.seen_of(told), copy_seen, fields_seen)
 
@@ -260,7 +294,13 @@ class _NotWritten(Exception):
 
 def not_read(fax: Waiting, fault: str, why: Optional[str] = None, seconds: Optional[float] = None) -> Found:
     """The row of a fax that was not read, and why."""
-    return Found(fax.path, fax.size, fax.mtime, NOT_READ, fault=fault, why=why, seconds=seconds)
+    return Found(fax.path, fax.size, fax.mtime, NOT_READ, fault=fault, why=why, seconds=seconds,
+                 salvaged=1 if fax.salvaged else None)
+
+
+def _not_copied(found: Found, fault: str, why: Optional[str] = None) -> Found:
+    """The row of a fax whose copy is not written, and why."""
+    return found._replace(status=NOT_READ, fault=fault, fault_page=None, fault_row=None, fault_tag=None, why=why)
 
 
 def _as_known(place: Place, digest: str) -> Optional[Stood]:
@@ -336,15 +376,25 @@ def _checked(data: bytes, fax: Waiting) -> Found:
     """The row of a fax by its bytes."""
     report = faxpages.check(data)
     notes = sorted({(note.number, note.name) for note in report.notes})
-    status = FAULTY if report.fault else GOOD
-    width, x, y, codings = _described(data)
-    found = Found(*fax[:3], status, report.pages, report.rows, width, x, y, codings,
-                  " ".join(name for _, name in notes))
+    (width, x, y, codings), listed, whole = _described(data)
+    found = Found(*fax[:3], GOOD, report.pages, report.rows, width, x, y, codings,
+                  " ".join(name for _, name in notes), bad_rows=bad_rows(data, listed) if listed else None, lost_rows=0,
+                  salvaged=1 if fax.salvaged else None)
     if report.fault:
         kind = kind_of(data, report.fault)
+        lost = lost_rows(data, report.fault.page, listed) if whole and not kind else None
         return found._replace(status=OTHER if kind else FAULTY, fault=report.fault.name, fault_page=report.fault.page,
-                              fault_row=report.fault.row, fault_tag=report.fault.tag, why=kind)
+                              fault_row=report.fault.row, fault_tag=report.fault.tag, why=kind, lost_rows=lost)
     return found
+
+
+def _salvaged_file(data: bytes, job: Job) -> Optional[bytes]:
+    """What can be salvaged of a damaged fax, in the coding of copies; nothing where no page has a form, or it would be
+    too large."""
+    try:
+        return faxpages.Fax(data).salvaged_file(job.to, job.order, job.k, job.strip, job.align)
+    except faxpages.OutputTooLarge:
+        return None
 
 
 def _counted(data: bytes, found: Found) -> Found:
@@ -359,8 +409,9 @@ def _counted(data: bytes, found: Found) -> Found:
         return found._replace(why=str(error))
 
 
-def _described(data: bytes) -> Tuple[Optional[int], Optional[float], Optional[float], str]:
-    """The width and the resolution of the first page, and the codings of all that can be listed."""
+def _described(data: bytes) -> Tuple[Tuple[Optional[int], Optional[float], Optional[float], str], int, bool]:
+    """The width and the resolution of the first page, and the codings of all that can be listed; how many these are,
+    and whether there are no others."""
     codings: Dict[str, None] = {}
     first: Tuple[Optional[int], Optional[float], Optional[float]] = (None, None, None)
     told, number, asked, status = _c.Told(), 0, _FORMS, _c.DONE
@@ -376,7 +427,7 @@ def _described(data: bytes) -> Tuple[Optional[int], Optional[float], Optional[fl
         number, asked = number + told.count, min(2 * asked, _MOST_FORMS)
     if status not in (_c.END, _c.FAULT):
         raise refusal(status)
-    return (*first, " ".join(codings))
+    return (*first, " ".join(codings)), number, status == _c.END
 
 
 def _to_the_inch(numerator: int, denominator: int, unit: int) -> float:

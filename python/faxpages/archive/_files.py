@@ -18,7 +18,8 @@ from typing import BinaryIO, Callable, Dict, Iterator, NamedTuple, Optional, Tup
 
 from ._incoming import why_incoming
 from ._marks import (
-    Mark, Owner, Place, digest_of_only, is_only, mark_of, name_of, only_of, put_mark, put_only, take_only,
+    SALVAGED, Mark, Owner, Place, digest_of_only, is_only, is_salvaged, mark_of, name_of, only_of, put_mark, put_only,
+    take_only,
 )
 
 _FOLDER = os.O_RDONLY | os.O_DIRECTORY | os.O_CLOEXEC
@@ -36,6 +37,10 @@ MOST = 2 * 268435456
 
 class NotOurs(Exception):
     """Another file is in the place, and is left."""
+
+
+class Whole(NotOurs):
+    """A copy of ours that is no salvaged one is in the place of one, and is left."""
 
 
 class NotRight(Exception):
@@ -273,7 +278,8 @@ def read(place: Place, most: int) -> Tuple[bytes, os.stat_result]:
 
 class Copy(NamedTuple):
     """What is to stand in a place: bytes, like which file, its name below TARGET, the digest that the table knows of
-    what stands there, whose copies are ours, and whether a file that has the bytes already becomes ours."""
+    what stands there, whose copies are ours, and whether a file that has the bytes already becomes ours; whether it is
+    a salvaged copy, and whether the table knows that one stands there."""
 
     data: bytes
     like: os.stat_result
@@ -281,6 +287,8 @@ class Copy(NamedTuple):
     known: str
     owner: Owner
     adopt: bool
+    salvaged: bool = False
+    known_salvaged: bool = False
 
     def digest(self) -> str:
         """The SHA-256 of the bytes."""
@@ -288,7 +296,7 @@ class Copy(NamedTuple):
 
     def mark(self) -> Mark:
         """What is noted at the file."""
-        return Mark(self.owner.noted(), self.digest(), name_of(self.relative))
+        return Mark(self.owner.noted(), self.digest(), name_of(self.relative), SALVAGED if self.salvaged else "")
 
 
 def stands(place: Place, copy: Copy) -> Tuple[Optional[Stood], Optional[Seen]]:
@@ -301,18 +309,29 @@ def stands(place: Place, copy: Copy) -> Tuple[Optional[Stood], Optional[Seen]]:
         found, mark, only = digest_of(file), mark_of(file), only_of(place, file)
         was_ours = mark.is_of(copy.owner, name_of(copy.relative)) if mark is not None else bool(copy.known)
         ours = was_ours and found in (copy.known, mark.digest if mark is not None else copy.known)
+        if copy.salvaged and only is None and not _may_be_salvaged(copy, mark, found):
+            raise Whole("a whole copy") if was_ours else NotOurs(_whose(copy, mark))
         if found == copy.digest():
             ours = ours or copy.adopt or (copy.known == NOT_KEPT and mark is None)
             # TARGET may have the fax itself under another name, which is no copy.
             ours = ours and not os.path.samestat(told, copy.like)
             # The only copy of a fax that is there again, since a run was killed before it was deleted.
             again = copy.known == NOT_KEPT and only is not None and (copy.owner.has(only) or only == "?")
+            again = again and not copy.salvaged
             return Stood(told.st_size, time_of(told.st_mtime_ns), found, ours if only is None else again), seen_of(told)
         if only is not None:
             raise NotOurs("the only copy of a fax that is gone")
         if not ours and not (was_ours and _is_cut(file, told.st_size, copy.data)):
             raise NotOurs("changed since it was written" if was_ours else _whose(copy, mark))
         return None, seen_of(told)
+
+
+def _may_be_salvaged(copy: Copy, mark: Optional[Mark], found: str) -> bool:
+    """Whether what stands in the place of a salvaged copy, with this mark and digest, may be one: by its mark, by the
+    table, or, where neither knows it, by its bytes. A whole copy has more than one that is salvaged later."""
+    if mark is not None:
+        return mark.kind == SALVAGED
+    return copy.known_salvaged or (not copy.known and found == copy.digest())
 
 
 def _whose(copy: Copy, mark: Optional[Mark]) -> str:
@@ -475,16 +494,26 @@ def _remove(part: Place) -> None:
         os.unlink(part.name, dir_fd=part.folder)
 
 
-def disown(target: Root, relative: bytes, owner: Owner, stood: Optional[Stood]) -> Optional[str]:
+def disown(target: Root, relative: bytes, owner: Owner, stood: Optional[Stood], salvaged: bool) -> Optional[str]:
     """Marks a copy whose fax is gone as the only one, so that no other fax of this name replaces it, unless it is
-    marked so. Why it cannot be marked, or read, if so."""
+    marked so. Of one without a mark the caller says whether it is a salvaged one. Why it cannot be marked, or read, if
+    so."""
     try:
         with target.place(relative) as place, opened(place) as file:
             if file is not None and not is_only(place, file) and _is_known(file, relative, owner, stood):
-                put_only(place, file, owner)
+                put_only(place, file, owner, salvaged)
             return None
     except (NotOurs, OSError) as error:
         return _not_marked(target, relative, error)
+
+
+def noted_salvaged(target: Root, relative: bytes) -> Optional[bool]:
+    """Whether the marks of a copy say that it is a salvaged one; None where there are none, or no copy."""
+    try:
+        with target.place(relative) as place, opened(place) as file:
+            return is_salvaged(file) if file is not None else None
+    except (NotOurs, OSError):
+        return None
 
 
 def noted_digest(target: Root, relative: bytes) -> Optional[str]:
@@ -559,7 +588,7 @@ def is_kept(target: Root, relative: bytes, copy: Seen) -> bool:
 
 def marks(path: bytes) -> Iterator[Tuple[bytes, str, bool, Optional[str]]]:
     """The copies below TARGET that have a mark: their names, the numbers of their tables, whether they are the only
-    ones, and their digests, where the marks have them."""
+    ones, and no salvaged ones, and their digests, where the marks have them."""
     for folder, _, names in os.walk(path):
         for name in names:
             relative = os.path.relpath(os.path.join(folder, name), path)
@@ -567,7 +596,7 @@ def marks(path: bytes) -> Iterator[Tuple[bytes, str, bool, Optional[str]]]:
                 with root_of(path).place(relative) as place, opened(place) as file:
                     number, mark = (only_of(place, file), mark_of(file)) if file is not None else (None, None)
                     if file is not None and number is not None:
-                        yield relative, number, True, digest_of_only(file)
+                        yield relative, number, not is_salvaged(file), digest_of_only(file)
                     elif mark is not None and mark.name == name_of(relative):
                         yield relative, mark.number, False, mark.digest
 

@@ -34,7 +34,7 @@ def _do_tree(words: argparse.Namespace) -> int:
     if words.command == "convert":
         target = os.path.abspath(os.fsencode(words.target))
         job = Job(tree, target, words.to, words.order, words.k, words.strip, words.align, words.fields, words.follow,
-                  adopt=words.adopt)
+                  adopt=words.adopt, salvage=words.salvage)
         walk.refuse_one_in_the_other(tree, target)
         if job.fields and not shutil.which("tiffdump"):
             raise TableError("tiffdump is not installed: Debian has it in libtiff-tools")
@@ -72,16 +72,27 @@ def _do_table(words: argparse.Namespace) -> int:
             found = merging.summary(table)
             out.write(json.dumps(found) + "\n" if words.summary else merging.prometheus(found))
         else:
-            _print_rows(words, out, (row for row in table.rows() if row.status != GOOD or row.why or not words.faulty))
-            if not words.csv and not words.json:
+            _print_rows(words, out, (row for row in table.rows() if _is_asked_for(words, row)))
+            if words.faulty and not words.csv and not words.json:
                 out.writelines(f"{shown(row.path)}: the only copy: {told(row).partition(': ')[2]}\n"
                                for row in table.damaged_copies())
         out.flush()
         out.detach()
+        unknown = table.row_counts()["bad_rows_unknown"] if words.mended else 0
+        if unknown:
+            say(f"{words.name}: {unknown} faxes were read by a version before 1.16, which did not count bad rows: "
+                "--again all of check or convert counts them")
         if last is None or not last.finished():
             say(f"{words.name}: {state_of(table)}")
             return NOT_READ
-    return GOOD
+    return NOT_READ if unknown else GOOD
+
+
+def _is_asked_for(words: argparse.Namespace, row: Found) -> bool:
+    """Whether a row is to be printed."""
+    if words.mended:
+        return bool(row.bad_rows)
+    return not words.faulty or row.status != GOOD or bool(row.why)
 
 
 def _print_rows(words: argparse.Namespace, out: io.TextIOWrapper, rows: Iterable[Found]) -> None:
@@ -100,7 +111,12 @@ def _print_rows(words: argparse.Namespace, out: io.TextIOWrapper, rows: Iterable
     elif words.json:
         out.writelines(json.dumps(dict(row._asdict(), path=text_of(row.path))) + "\n" for row in rows)
     else:
-        out.writelines(f"{shown(row.path)}: {told(row)}\n" for row in rows)
+        out.writelines(f"{shown(row.path)}: {_mended(row) if words.mended else told(row)}\n" for row in rows)
+
+
+def _mended(row: Found) -> str:
+    """What a row says of the bad rows that receivers counted."""
+    return f"mended by the receiver: {row.bad_rows} {'row' if row.bad_rows == 1 else 'rows'}"
 
 
 def _do_merge(words: argparse.Namespace) -> int:

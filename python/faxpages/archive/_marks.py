@@ -16,6 +16,8 @@ import stat
 from typing import Callable, FrozenSet, NamedTuple, Optional
 
 _MARK, _ONLY = "user.faxpages.copy", "user.faxpages.only"
+# The last word of a mark at a salvaged copy.
+SALVAGED = "salvaged"
 _TEXT = b"The file %s is the only copy of a fax that is gone. Delete this file if it may be replaced.\n"
 
 
@@ -42,12 +44,13 @@ class Owner(NamedTuple):
 
 
 class Mark(NamedTuple):
-    """What is noted at a copy: the number of its table, its digest, and its name as a digest, which versions before 1.6
-    did not note."""
+    """What is noted at a copy: the number of its table, its digest, its name as a digest, which versions before 1.6 did
+    not note, and that it is a salvaged one."""
 
     number: str
     digest: str
     name: str = ""
+    kind: str = ""
 
     def is_of(self, owner: Owner, name: str) -> bool:
         """Whether a copy with this mark, which is found under a name, is ours."""
@@ -62,7 +65,7 @@ def name_of(relative: bytes) -> str:
 def mark_of(file: int) -> Optional[Mark]:
     """The mark of a file that is open."""
     words = _text_of(file, _MARK).split()
-    return Mark(*words[:3]) if len(words) > 1 else None
+    return Mark(*words[:4]) if len(words) > 1 else None
 
 
 def _text_of(file: int, attribute: str) -> str:
@@ -75,7 +78,7 @@ def _text_of(file: int, attribute: str) -> str:
 def put_mark(file: int, mark: Mark) -> None:
     """Notes at a file whose it is. Where attributes cannot be kept, the table alone knows it."""
     with contextlib.suppress(OSError):
-        os.setxattr(file, _MARK, " ".join(mark).encode())
+        os.setxattr(file, _MARK, " ".join(mark).rstrip().encode())
 
 
 def only_of(place: Place, file: int) -> Optional[str]:
@@ -95,17 +98,27 @@ def digest_of_only(file: int) -> Optional[str]:
     return said[1] if len(said) > 1 else None
 
 
+def is_salvaged(file: int) -> Optional[bool]:
+    """Whether a copy is a salvaged one, by its marks; None where it has none."""
+    mark, said = mark_of(file), _text_of(file, _ONLY).split()
+    if mark is not None:
+        return mark.kind == SALVAGED
+    return said[2:] == [SALVAGED] if said else None
+
+
 def is_only(place: Place, file: int) -> bool:
     """Whether a copy is the only one."""
     return only_of(place, file) is not None
 
 
-def put_only(place: Place, file: int, owner: Owner) -> None:
-    """Notes that a copy is the only one. OSError says that this cannot be noted."""
+def put_only(place: Place, file: int, owner: Owner, salvaged: bool = False) -> None:
+    """Notes that a copy is the only one, and, where it has no mark that says so, whether it is a salvaged one. OSError
+    says that this cannot be noted."""
     try:
         # With the digest a table that is damaged can be made anew.
         mark = mark_of(file)
-        said = owner.noted() + (f" {mark.digest}" if mark is not None else "")
+        said = owner.noted() + (f" {mark.digest}" if mark is not None else " ?" if salvaged else "")
+        said += f" {SALVAGED}" if (salvaged if mark is None else mark.kind == SALVAGED) else ""
         _writable(file, lambda: os.setxattr(file, _ONLY, said.encode()))
         _writable(file, lambda: _remove(file, _MARK))
     except OSError as error:

@@ -137,7 +137,8 @@ def summary(table: Table) -> Dict[str, Any]:
         "unread_folders": last.unread if last else None, "faxes": sum(counts.values()), "good": counts[GOOD],
         "faulty": counts[FAULTY], "other": counts[OTHER], "not_read": counts[NOT_READ],
         "deleted": table.count_deleted(), "faults": table.faults(), "kinds": table.kinds(), "lacks": table.lacks(),
-        "found": found, "lost": lost, "stays": table.stays(), "only_copies": good + bad + unread,
+        "found": found, "lost": lost, **table.row_counts(), "salvaged": table.salvaged(),
+        "stays": table.stays(), "only_copies": good + bad + unread,
         "only_copies_good": good, "only_copies_faults": {name: count for name, count in only.items() if name},
         "verified": table.verified()}
 
@@ -174,7 +175,14 @@ def prometheus(told: Dict[str, Any]) -> str:
                             ("finished", "Whether the last run went to its end."),
                             ("deleted", "Faxes that were deleted after they had been copied."),
                             ("found", "Rows of faulty faxes that are left."),
-                            ("lost", "Rows of faulty faxes that are lost.")):
+                            ("lost", "Rows of faulty faxes that are lost."),
+                            ("salvaged", "Faulty faxes with a salvaged copy."),
+                            ("bad_rows", "Bad rows that receivers counted."),
+                            ("bad_rows_faxes", "Faxes whose receiver counted bad rows."),
+                            ("bad_rows_unknown", "Faxes of which it is not known what their receiver counted."),
+                            ("lost_rows", "Rows that salvage does not find."),
+                            ("lost_rows_faxes", "Faxes with rows that salvage does not find."),
+                            ("lost_rows_unknown", "Faxes of which it is not known how many rows are lost.")):
         if told[name] is not None:
             lines += [f"# HELP faxpages_archive_{name} {help_text}", f"# TYPE faxpages_archive_{name} gauge",
                       f"faxpages_archive_{name}{{{labels}}} {told[name] + 0}"]

@@ -12,6 +12,10 @@ from ._database import ONLY_SUM, Database, bytes_of, kept_path
 from ._fax import FAULTY, Found
 
 
+# The faxes of which we have a whole copy.
+COPIED = "SELECT path FROM copies JOIN faxes USING (path) WHERE ours AND ifnull(salvaged, 0) = 0"
+
+
 class OnlyCopies(Database):
     """The only copies."""
 
@@ -54,14 +58,15 @@ class OnlyCopies(Database):
                 "INSERT OR IGNORE INTO only_copies "
                 "SELECT path, digest, NULL, NULL, NULL, NULL, 0, row_sum(path, digest, NULL) "
                 "FROM (SELECT path, digest, max(rowid) FROM deleted WHERE deleted > 0 GROUP BY path) "
-                "WHERE path NOT IN (SELECT path FROM copies WHERE ours)")
+                f"WHERE path NOT IN ({COPIED})")
             self._base.execute("INSERT INTO job VALUES ('only copies', 'noted')")
         if told is None or told[2] is not None:
             self._put_verification((told[0] + 1 if told else 1, time.time(), None))
         (self._verified, _, _) = self._verification() or (1, 0.0, None)
         self._base.execute("DELETE FROM waiting")
         self._base.execute(
-            "INSERT INTO waiting SELECT CAST(path AS BLOB), 0, 0, ifnull(digest, ?), ifnull(fields_digest, ''), 0, x'' "
+            "INSERT INTO waiting "
+            "SELECT CAST(path AS BLOB), 0, 0, ifnull(digest, ?), ifnull(fields_digest, ''), 0, x'', 0 "
             "FROM only_copies WHERE run != ?", (files.NOT_KEPT, self._verified))
         return int(self._base.execute("SELECT count(*) FROM waiting").fetchone()[0])
 

@@ -14,7 +14,7 @@ from typing import TYPE_CHECKING, Any, Dict, Iterator, List, Optional, Set, Tupl
 from . import _files as files
 from . import _walk as walk
 from ._database import text_of
-from ._fax import FAULTY, FIELDS, GOOD, NOT_READ, OTHER, Done, Found, Job, Waiting
+from ._fax import FAULTY, FIELDS, GOOD, NOT_READ, OTHER, WHOLE, Done, Found, Job, Waiting
 from ._files import Seen, Stood
 from ._lacks import NAMES
 from ._progress import Gathering, Progress
@@ -83,7 +83,8 @@ def told(row: Found) -> str:
         tag = f" {row.fault_tag}" if row.fault_tag is not None else ""
         kind = f"no fax that is read here, but {row.why or 'something else'}: " if row.status == OTHER else ""
         left = f"; {row.found} rows are left, {row.lost} are lost" if row.lost is not None else ""
-        return f"{kind}fault page {row.fault_page} row {row.fault_row}: {row.fault}{tag}{left}"
+        copy = "; its copy is a salvaged one" if row.salvaged else f"; {WHOLE}" if row.why == WHOLE else ""
+        return f"{kind}fault page {row.fault_page} row {row.fault_row}: {row.fault}{tag}{left}{copy}"
     why = f": {shown(row.why)}" if row.why else ""
     if row.status == GOOD:
         return f"not deleted: {shown(row.why)}"
@@ -109,7 +110,8 @@ class Run:
         self._linked: Set[Tuple[int, int]] = set()
         # Why faxes stay that were to be deleted.
         self._whys: Dict[bytes, str] = {}
-        self._run_words = json.dumps([words.again, bool(job.fields)] + (["lost"] if job.lost else []))
+        more = [word for word, asked in (("lost", job.lost), ("salvage", job.salvage)) if asked]
+        self._run_words = json.dumps([words.again, bool(job.fields), *more])
         self._number = table.next_run(words.command, self._run_words)
 
     def do(self) -> int:
@@ -223,7 +225,7 @@ class Run:
             self._changed += not same
             if same and not self._is_asked(fax.path, known) and self._is_copied(fax.path, known, copied):
                 return None
-            fax = fax._replace(digest=self._table.digest(fax))
+            fax = fax._replace(digest=self._table.digest(fax), salvaged=known.salvaged == 1)
         if copied is None:
             if self._target is not None and self._table.was_deleted(fax):
                 # It was about to be deleted, and is there: its copy is ours, if it is this one.
@@ -239,7 +241,9 @@ class Run:
         words = self._words
         if self._job.lost and known.status == FAULTY and not self._table.is_counted(path):
             return self._table.why(path)[2] != self._number
-        if known.status < _LEAST[words.again] or (words.again == "copies" and known.status in (FAULTY, OTHER)):
+        if words.again == "copies" and known.status in (FAULTY, OTHER) and not (self._job.salvage and known.salvaged):
+            return False
+        if known.status < _LEAST[words.again]:
             return False
         fault, seconds, run = self._table.why(path)
         if run == self._number:
@@ -249,10 +253,14 @@ class Run:
         return True
 
     def _is_copied(self, path: bytes, known: Known, copied: Optional[Copied]) -> bool:
-        """Whether the copy of a good fax, and its fields, are there as they were written, by their sizes and times."""
+        """Whether the copy of a good fax, and its fields, are there as they were written, by their sizes and times; of
+        a faulty one that is to be salvaged, whether its copy is, salvaged or whole. Of some nothing can be salvaged."""
+        name = self._job.copy_of(path)
+        if self._job.salvage and known.status == FAULTY and known.salvaged != 0:
+            stands = copied is not None and self._stands(name, copied.copy)
+            return stands or self._table.why(path)[2] == self._number
         if self._target is None or known.status != GOOD:
             return True
-        name = self._job.copy_of(path)
         if copied is None or not self._stands(name, copied.copy):
             return False
         return not self._job.fields or (copied.fields is not None and self._stands(name + FIELDS, copied.fields))
@@ -283,13 +291,14 @@ class Run:
         whys: Dict[bytes, str] = {}
         if self._target is not None:
             for path in {**gone, **unmarked}:
-                why = self._disown(path)
+                why = self._disown(path, self._is_salvaged(path))
                 if why is not None:
                     whys[path] = why
         marked = [path for path in gone if path not in whys]
         if self._target is not None:
             self._table.keep_only([(path, *self._noted(path)) for path in {**gone, **unmarked} if path not in whys
-                                   and self._target.look(self._job.copy_of(path)) is not None])
+                                   and self._target.look(self._job.copy_of(path)) is not None
+                                   and not self._is_salvaged(path)])
         self._table.forget(marked)
         self._table.forget_copies([path for path in unmarked if path not in whys])
         self._due -= self._table.are_not_marked(whys, self._number, self._job.owner.number)
@@ -298,13 +307,20 @@ class Run:
         self._gone = len(gone) - self._left
         self._counts[NOT_READ] += len(whys)
 
-    def _disown(self, path: bytes) -> Optional[str]:
+    def _is_salvaged(self, path: bytes) -> bool:
+        """Whether the copy of a fax is a salvaged one, which stays as any other, and does not count as a copy: by its
+        marks, since a run that was killed may have written it; without marks, by the table."""
+        assert self._target is not None
+        noted, known = files.noted_salvaged(self._target, self._job.copy_of(path)), self._table.known(path)
+        return noted if noted is not None else known is not None and known.salvaged == 1
+
+    def _disown(self, path: bytes, salvaged: bool) -> Optional[str]:
         """Marks the copy of a fax that is gone, and its fields; why they cannot be marked, which is said."""
         assert self._target is not None
         name, copied = self._job.copy_of(path), self._table.copied(path)
         known = (copied.copy, copied.fields) if copied is not None else (None, None)
         for each, stood in zip((name, name + FIELDS), known):
-            why = files.disown(self._target, each, self._job.owner, stood)
+            why = files.disown(self._target, each, self._job.owner, stood, salvaged and each == name)
             if why is not None:
                 say(f"NoMark: {shown(each)}: {why}")
                 return why

@@ -12,7 +12,7 @@ from ._database import COLUMNS, PUT_COPY, Path, WrongTable, bytes_of, kept_path,
 from ._fax import FAULTY, GOOD, NOT_READ, OTHER, Done, Found, Job, Waiting
 from ._files import Seen, Stood
 from ._marks import Owner
-from ._only_copies import OnlyCopies
+from ._only_copies import COPIED, OnlyCopies
 
 # How many rows are read at a time.
 _READ = 1000
@@ -40,6 +40,7 @@ class Known(NamedTuple):
     size: int
     mtime: float
     status: int
+    salvaged: Optional[int]
 
 
 class Look(NamedTuple):
@@ -175,8 +176,8 @@ class Table(OnlyCopies):
 
     def known(self, path: bytes) -> Optional[Known]:
         """What the table knows of a fax."""
-        found = self._base.execute("SELECT rowid, size, mtime, status FROM faxes WHERE path = ?", (kept_path(path),))
-        for row in found:
+        query = "SELECT rowid, size, mtime, status, salvaged FROM faxes WHERE path = ?"
+        for row in self._base.execute(query, (kept_path(path),)):
             return Known(*row)
         return None
 
@@ -197,6 +198,17 @@ class Table(OnlyCopies):
         """How many rows of all faulty faxes are left, and lost; of none nothing is known."""
         found, lost = self._base.execute("SELECT sum(found), sum(lost) FROM faxes").fetchone()
         return found, lost
+
+    def row_counts(self) -> Dict[str, Optional[int]]:
+        """How many bad rows receivers counted, and how many rows are lost; how many faxes have such rows; and of how
+        many faxes that is not known. Where it is known of none, there is no sum."""
+        told: Dict[str, Optional[int]] = {}
+        for name, where in (("bad_rows", "width IS NOT NULL"), ("lost_rows", f"status IN ({GOOD}, {FAULTY})")):
+            rows, faxes, unknown = self._base.execute(
+                f"SELECT iif(count({name}), CAST(total({name}) AS INTEGER), NULL), count(nullif({name}, 0)), "
+                f"ifnull(sum({name} IS NULL AND {where}), 0) FROM faxes").fetchone()
+            told.update({name: rows, f"{name}_faxes": faxes, f"{name}_unknown": unknown})
+        return told
 
     def copied(self, path: bytes) -> Optional[Copied]:
         """What the table knows of the copy of a fax."""
@@ -244,7 +256,8 @@ class Table(OnlyCopies):
         else:
             self._base.executemany(_PUT_ORIGINAL, (_original(one) for one in done if one.digest))
         copies = [one for one in done if one.copy is not None]
-        self.drop_only([one.found.path for one in copies if one.copy is not None and one.copy.ours])
+        self.drop_only([one.found.path for one in copies if one.copy is not None and one.copy.ours
+                        and not one.found.salvaged])
         self._base.executemany(PUT_COPY, (
             (kept_path(one.found.path), *(one.copy or ()), *(one.fields or (None,) * 4)) for one in copies))
 
@@ -273,7 +286,8 @@ class Table(OnlyCopies):
     def forget_copies(self, paths: List[bytes]) -> None:
         """Takes out what is known of the copies of these faxes."""
         self.begin()
-        self._base.executemany("DELETE FROM copies WHERE path = ?", ((kept_path(path),) for path in paths))
+        for change in ("DELETE FROM copies", "UPDATE faxes SET salvaged = NULL"):
+            self._base.executemany(f"{change} WHERE path = ?", ((kept_path(path),) for path in paths))
         self.touch(map(kept_path, paths))
 
     def not_marked(self) -> List[bytes]:
@@ -385,7 +399,7 @@ class Table(OnlyCopies):
 
     def wait(self, fax: Waiting) -> None:
         """Notes that a fax is due. It is kept outside the table, and goes with this process."""
-        self._base.execute("INSERT INTO waiting VALUES (?, ?, ?, ?, ?, ?, ?)", fax)
+        self._base.execute("INSERT INTO waiting VALUES (?, ?, ?, ?, ?, ?, ?, ?)", fax)
 
     def wait_for_good(self) -> None:
         """Notes that all good faxes of the table are due, with what is known of their copies, and that none is known to
@@ -398,7 +412,7 @@ class Table(OnlyCopies):
         self._base.execute(
             "INSERT INTO waiting SELECT CAST(path AS BLOB), faxes.size, faxes.mtime, ifnull(copies.digest, ''), "
             "ifnull(fields_digest, ''), ifnull(ours, 0) AND ifnull(fields_ours, 1), iif(originals.size = faxes.size "
-            "AND originals.mtime = faxes.mtime, ifnull(originals.digest, x''), x'') FROM faxes LEFT JOIN copies "
+            "AND originals.mtime = faxes.mtime, ifnull(originals.digest, x''), x''), 0 FROM faxes LEFT JOIN copies "
             "USING (path) LEFT JOIN originals USING (path) WHERE status = ?", (GOOD,))
 
     def not_good(self) -> Iterator[bytes]:
@@ -415,7 +429,7 @@ class Table(OnlyCopies):
             found = self._base.execute(
                 "SELECT rowid, * FROM waiting WHERE rowid > ? ORDER BY rowid LIMIT ?", (last, count)).fetchall()
             last = found[-1][0] if found else last
-            return [Waiting(row[1], row[2], row[3], row[4], row[5], bool(row[6]), row[7]) for row in found]
+            return [Waiting._make((*row[1:6], bool(row[6]), row[7], bool(row[8]))) for row in found]
 
         return take
 
@@ -478,19 +492,25 @@ class Table(OnlyCopies):
         return None
 
     def put_looks(self, looks: List[Whole]) -> None:
-        """Writes rows of another table."""
-        self._put([(row, look) for row, look, _, _ in looks])
+        """Writes rows of another table. Where it has no copy, the copy that is known here stays so."""
+        self._put([(row if copy is not None else self._with_copy(row), look) for row, look, copy, _ in looks])
         self._base.executemany(PUT_COPY, (
             (kept_path(row.path), *copy) for row, _, copy, _ in looks if copy is not None))
         self._base.executemany(_PUT_ORIGINAL, (
             (kept_path(row.path), *original) for row, _, _, original in looks if original is not None))
+
+    def _with_copy(self, row: Found) -> Found:
+        """A row of another table that knows no copy, with what is known here of a salvaged one."""
+        known = self.known(row.path)
+        mine = known is not None and known.salvaged == 1
+        return row._replace(salvaged=1 if mine else None if row.salvaged == 1 else row.salvaged)
 
     def put_only_copies(self, part: "Table") -> None:
         """Takes over the only copies that a part knows, and what it found of them, but for what has a copy here."""
         self.begin()
         self._base.executemany(
             "INSERT OR IGNORE INTO only_copies SELECT ?1, ?2, ?3, ?4, ?5, ?6, 0, row_sum(?1, ?2, ?3) "
-            "WHERE ?1 NOT IN (SELECT path FROM copies WHERE ours)",
+            f"WHERE NOT EXISTS ({COPIED} AND path = ?1)",
             part._base.execute("SELECT path, digest, fields_digest, fault, why, verified FROM only_copies"))
         if part._value("only copies") is None:
             self._base.execute("DELETE FROM job WHERE name = 'only copies'")
@@ -508,6 +528,11 @@ class Table(OnlyCopies):
             for name in str(names).split():
                 found[name] = found.get(name, 0) + int(count)
         return dict(sorted(found.items()))
+
+    def salvaged(self) -> int:
+        """How many faxes have a salvaged copy."""
+        (count,) = self._base.execute("SELECT count(*) FROM faxes WHERE salvaged = 1").fetchone()
+        return int(count)
 
     def faults(self) -> Dict[str, int]:
         """How many rows have each fault, but for those of what is no fax that is read here."""

@@ -61,6 +61,7 @@ def _convert_words(convert: argparse.ArgumentParser) -> None:
     convert.add_argument("--strip", type=_at_least(int, 1), metavar="ROWS")
     convert.add_argument("--align", action="store_true")
     convert.add_argument("--fields", action="store_true", help="write NAME.fields beside each copy, by tiffdump")
+    convert.add_argument("--salvage", action="store_true", help="write what can be salvaged of faulty faxes, too")
     convert.add_argument("--adopt", action="store_true", help="take over files that have the bytes of a copy")
     convert.add_argument("--delete", action="store_true", help="delete the faxes that are copied and compared")
     convert.add_argument("--all-or-nothing", action="store_true",
@@ -88,7 +89,9 @@ def _parser() -> argparse.ArgumentParser:
     form.add_argument("--json", action="store_true", help="a line of JSON for each row")
     form.add_argument("--summary", action="store_true", help="what they come to, as JSON")
     form.add_argument("--prometheus", action="store_true", help="the same as text for Prometheus")
-    table.add_argument("--faulty", action="store_true", help="the bad faxes alone; by itself, a line of text for each")
+    some = table.add_mutually_exclusive_group()
+    some.add_argument("--faulty", action="store_true", help="the bad faxes alone; by itself, a line of text for each")
+    some.add_argument("--mended", action="store_true", help="the same of the faxes whose receiver counted bad rows")
     verify = commands.add_parser("verify", help="compare the only copies with their digests", allow_abbrev=False)
     verify.add_argument("target", metavar="TARGET")
     _engine_words(verify)
@@ -106,10 +109,11 @@ def words_of(given: Optional[List[str]]) -> argparse.Namespace:
     words = parser.parse_args(given)
     if words.command == "table":
         form = words.csv or words.json or words.summary or words.prometheus
-        if not (form or words.faulty):
-            parser.error("table needs one of --csv, --json, --summary, --prometheus and --faulty")
-        if words.faulty and (words.summary or words.prometheus):
-            parser.error("--faulty is for --csv and --json, or stands alone")
+        some = "--faulty" if words.faulty else "--mended" if words.mended else ""
+        if not (form or some):
+            parser.error("table needs one of --csv, --json, --summary, --prometheus, --faulty and --mended")
+        if some and (words.summary or words.prometheus):
+            parser.error(f"{some} is for --csv and --json, or stands alone")
     if words.command == "verify" and words.scheduler is not None and words.processes is not None:
         parser.error("--processes is not for a scheduler, which has its own")
     if words.command in ("check", "convert"):

@@ -11,8 +11,8 @@ from typing import TYPE_CHECKING, Dict, FrozenSet, List, Optional, Set, Tuple
 
 from tests.archive.drawn.contents import Verdict, digest
 from tests.archive.drawn.model import (
-    GOOD, NOT_READ, Fax, Job, Model, Original, Row, Stood, Words, about_to_go, deleted_in, has_turned, knows_copies,
-    originals_of, rows_of, see, status_of, where_in,
+    FAULTY, GOOD, NOT_READ, Fax, Job, Model, Original, Row, Stood, Words, about_to_go, deleted_in, has_turned,
+    knows_copies, originals_of, rows_of, see, status_of, where_in,
 )
 from tests.archive.drawn.playing import Ran, Trouble
 from tests.archive.drawn.world import Entry, World, folded, snapshot
@@ -71,16 +71,21 @@ class Comparison:
         # there may be several.
         self.wanted: Dict[bytes, List[Tuple[bytes, Fax, bytes]]] = {}
         for path, fax in before.seen.faxes.items():
-            good = fax.data is not None and not self.model.teller.verdict(fax.data).status
-            if job.to and good and (path not in self.turned or path == self.changed_amid):
-                for name, data in self.model.wanted(self.world, job, path, fax).items():
+            if job.to and (path not in self.turned or path == self.changed_amid):
+                for name, data in self._made_of(path, fax).items():
                     self.wanted.setdefault(name, []).append((path, fax, data))
-        self.outcomes = {path: self.model.outcome(self.world, job, path, fax, before.target, path in self.turned)
+        self.outcomes = {path: self.model.outcome(self.world, job, words, path, fax, before.target, path in self.turned)
                          for path, fax in self._share().items()}
-        last, said = before.last, json.dumps([words.again, job.fields])
+        last, said = before.last, json.dumps([words.again, job.fields, *(["salvage"] if words.salvage else [])])
         number = 1 if last is None else last[0] + (last[1] != said or bool(last[3]))
         self.due = [path for path, fax in self._share().items() if self.model.is_due(
             self.world, job, words, path, fax, before.rows.get(path), number, before.target)]
+
+    def _made_of(self, path: bytes, fax: Fax) -> Dict[bytes, bytes]:
+        """What may be written for a fax, by its names: its copy, or what is salvaged of it."""
+        if fax.data is not None and not self.model.teller.verdict(fax.data).status:
+            return self.model.wanted(self.world, self.job, path, fax)
+        return self.model.salvaged(self.job, path, fax) if self.words.salvage else {}
 
     def _accept_amid(self) -> None:
         """What came amid the run has to be there still, and then counts as if it had been there before."""
@@ -94,8 +99,8 @@ class Comparison:
                 self.changed_amid = name
                 there = after.get(name)
                 if there is None and event.replaces and self.words.delete:
-                    # It changed before it was read, and was copied and deleted so.
-                    self.before.seen.faxes[name] = self.before.seen.faxes[name]._replace(data=event.data)
+                    # It changed before it was read, and was copied and deleted so: another file, which nobody writes.
+                    self.before.seen.faxes[name] = self.before.seen.faxes[name]._replace(data=event.data, written=False)
                     continue
                 self.claim(there is not None and there.data == event.data, f"what came amid is gone: {name!r}")
                 assert there is not None
@@ -286,6 +291,9 @@ class Comparison:
         if os.geteuid() == 0 and not self.episode.other_user and not self.trouble.at:
             self.claim(now.owner == fax.owner, f"a copy has another owner: {name!r}: {now.owner}, wanted {fax.owner}")
         maybe = name in self.model.maybe.setdefault(self.job.table, set())
+        pieces = self.model.teller.pieces
+        whole = was is not None and was.data not in pieces and not any(it.startswith(was.data) for it in pieces)
+        self.claim(not whole or data not in pieces, f"a whole copy is replaced: {name!r}")
         same = was is not None and was.kind == "file" and was.data == data
         held = was is not None and not self._holds(name, path) and not (same and self.words.adopt)
         self.claim(not held or maybe, f"the copy of a fax with another name is replaced: {name!r}")
@@ -409,10 +417,22 @@ class Comparison:
             if self._is_sure(path):
                 wanted = self.outcomes[path]
                 self.claim(row.verdict == wanted, f"{path!r}: {row.verdict}, wanted {wanted}{self._about(path)}")
+            self._counted(path, row, fax)
             if row.verdict.status == GOOD and not row.stays:
+                self.claim(row.salvaged is None, f"good, and its copy is a salvaged one: {path!r}")
                 self._note_good(path, fax)
+            elif row.salvaged == 1:
+                self._note_salvaged(path)
         for path in set(self.before.rows) - set(self.after.rows):
             self.claim(path not in faxes or self.words.delete, f"a row is lost: {path!r}")
+
+    def _counted(self, path: bytes, row: Row, fax: Fax) -> None:
+        """A row that this run has written of a fax that it has read has the numbers of its bad and lost rows."""
+        was = self.before.rows.get(path)
+        written = was is None or was.run != row.run
+        if written and fax.data is not None and row.verdict.status in (GOOD, FAULTY) and self.beside is None:
+            wanted = self.model.teller.counts(fax.data)
+            self.claim(row.counts == wanted, f"the rows of {path!r}: {row.counts}, wanted {wanted}")
 
     def _originals(self) -> None:
         """The digest of each fax that was read is kept; of one whose bits have turned, that of what it was."""
@@ -476,9 +496,8 @@ class Comparison:
         if path is None or self.amid is None or not self.amid.replaces or name not in self.job.copies_of(path):
             return False
         fax = self.before.seen.faxes[path]
-        both = [data for data in (fax.data, self.amid.data)
-                if data is not None and not self.model.teller.verdict(data).status]
-        rights = [self.model.wanted(self.world, self.job, path, fax._replace(data=data))[name] for data in both]
+        both = [data for data in (fax.data, self.amid.data) if data is not None]
+        rights = [self._made_of(path, fax._replace(data=data)).get(name) for data in both]
         self.claim(now.kind == "file" and now.data in rights, f"a copy of what changed amid is wrong: {name!r}")
         return True
 
@@ -512,6 +531,16 @@ class Comparison:
                 stood[name] = Stood(len(now.data), now.mtime, now.data)
                 if self.words.adopt:
                     self.model.ours[self.job.table][name] = now.data
+
+    def _note_salvaged(self, path: bytes) -> None:
+        """A row that says that the copy of its fax is a salvaged one: what it knows of it."""
+        name = self.job.copy_of(path)
+        now, was = self.after.target.get(name), self.before.rows.get(path)
+        if now is not None and now.kind == "file" and now != self.before.target.get(name):
+            self.claim(now.data in self.model.teller.pieces, f"said to be salvaged, and is not: {name!r}")
+            self.model.stood.setdefault(self.job.table, {})[name] = Stood(len(now.data), now.mtime, now.data)
+        elif was is None or was.salvaged != 1:
+            self.model.maybe.setdefault(self.job.table, set()).add(name)
 
     def _is_of_before(self, path: bytes, name: bytes, fax: Fax, data: bytes) -> bool:
         """Whether a copy that stays is that of a fax before a bit of it turned, and no table knows the fax's digest."""

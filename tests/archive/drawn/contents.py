@@ -6,7 +6,7 @@ import os
 import re
 import struct
 import subprocess
-from typing import FrozenSet, Iterable, Iterator, List, NamedTuple, Optional, Tuple
+from typing import FrozenSet, Iterable, Iterator, List, NamedTuple, Optional, Set, Tuple
 from types import ModuleType
 
 from tests.convert import files, pages
@@ -39,6 +39,16 @@ class Verdict(NamedTuple):
 
 def with_field(fax: bytes, tag: int, value: bytes) -> bytes:
     """A fax of one page with one more field of bytes. Where its directory stood are zeros."""
+    return _with_entry(fax, tag, 2, value)
+
+
+def with_number(fax: bytes, tag: int, value: int) -> bytes:
+    """The same with one more field of one LONG."""
+    return _with_entry(fax, tag, 4, struct.pack("<I", value))
+
+
+def _with_entry(fax: bytes, tag: int, kind: int, value: bytes) -> bytes:
+    """The same with a field of bytes, which stand before the directory, or of one number, which it has itself."""
     (at,) = struct.unpack_from("<I", fax, 4)
     (count,) = struct.unpack_from("<H", fax, at)
     end = at + 2 + ENTRY * count
@@ -46,11 +56,12 @@ def with_field(fax: bytes, tag: int, value: bytes) -> bytes:
     whole = bytearray(fax)
     whole[at:end + 4] = bytes(end + 4 - at)
     whole += bytes(len(whole) % 2)
+    said = struct.pack("<I", 1) + value if kind == 4 else struct.pack("<II", len(value), len(whole))
+    whole += value + bytes(len(value) % 2) if kind != 4 else b""
     place = len(whole)
-    whole += value + bytes(len(value) % 2)
-    entries.append(struct.pack("<HHII", tag, 2, len(value), place))
+    entries.append(struct.pack("<HH", tag, kind) + said)
     entries.sort(key=lambda entry: struct.unpack_from("<H", entry))
-    whole[4:8] = struct.pack("<I", len(whole))
+    whole[4:8] = struct.pack("<I", place)
     return bytes(whole + struct.pack("<H", count + 1) + b"".join(entries) + bytes(4))
 
 
@@ -92,11 +103,28 @@ def drawn(faxpages: ModuleType, seed: int) -> List[Content]:
         found.append(Content(with_field(fax, tag, words + b"\0"), frozenset([lacks])))
     found.append(Content(without_resolution(plain[2]), frozenset(["resolution"])))
     found.append(Content(plain[0] + b"\0\0\0\0more of it", frozenset(["bytes"])))
+    found += [Content(data) for data in damaged(faxpages)]
     found.append(Content(plain[0][:-20]))
     found.append(Content(with_value(plain[2], (259,), 5)))
     found.append(Content(b""))
     found.append(Content(b"no fax at all"))
     return [it._replace(turned=turned(faxpages, it.data)) for it in found]
+
+
+def damaged(faxpages: ModuleType) -> List[bytes]:
+    """Damaged faxes of which rows can be salvaged: of one page whose receiver counted bad rows, in MH and MMR; and of
+    two pages, of which the second one is damaged."""
+    rng = pages.seeded("damaged", 1)
+    image = pages.image(40, [pages.draw_row(rng, "noise", 40, number, 0) for number in range(8)])
+    found = []
+    for to, tag, value in (("mh", 326, 3), ("mmr", 327, 1)):
+        fax = with_number(faxpages.convert(image, to), tag, value)
+        found.append(next(it for it in (with_bit(fax, bit) for bit in bits_of_strips(fax))
+                          if faxpages.check(it).fault and faxpages.check(it).rows > 2))
+    two = faxpages.convert(image + image, "mh")
+    found.append(next(it for it in (with_bit(two, bit) for bit in reversed(list(bits_of_strips(two))))
+                      if faxpages.check(it).fault and faxpages.check(it).pages == 1))
+    return found
 
 
 def with_bit(data: bytes, bit: int) -> bytes:
@@ -146,7 +174,11 @@ class Teller:
         self._faxpages, self._program = faxpages, program
         self.verdict = functools.lru_cache(maxsize=None)(self._verdict)
         self.copy = functools.lru_cache(maxsize=4096)(self._copy)
+        self.salvaged = functools.lru_cache(maxsize=4096)(self._salvaged)
         self.fields = functools.lru_cache(maxsize=4096)(self._fields)
+        self.counts = functools.lru_cache(maxsize=None)(self._counts)
+        # All that was salvaged.
+        self.pieces: Set[bytes] = set()
 
     def _verdict(self, data: bytes) -> Verdict:
         ran = subprocess.run([self._program, "check"], input=data, capture_output=True, check=False)
@@ -160,6 +192,24 @@ class Teller:
         """The copy as the program writes it."""
         ran = subprocess.run([self._program, "convert", "-o", *words], input=data, capture_output=True, check=True)
         return ran.stdout
+
+    def _salvaged(self, data: bytes, words: Tuple[str, ...]) -> Optional[bytes]:
+        """What the program salvages of a damaged fax, if a page has a form."""
+        ran = subprocess.run([self._program, "salvage", "-o", *words], input=data, capture_output=True, check=False)
+        self.pieces.update([ran.stdout] if ran.stdout else [])
+        return ran.stdout or None
+
+    def _counts(self, data: bytes) -> Tuple[Optional[int], Optional[int]]:
+        """How many bad rows receivers counted on the pages that can be listed; and how many rows are lost, where all
+        pages can be listed."""
+        counted, lost = list[int](), 0
+        try:
+            for page in self._faxpages.Fax(data).pages:
+                counted.append(page.received.bad_rows or int(bool(page.received.clean)))
+                lost += sum(stretch.rows for stretch in page.salvaged().lost)
+        except self._faxpages.FaxError:
+            return sum(counted) if counted else None, None
+        return sum(counted), lost
 
     def _fields(self, data: bytes, name: bytes) -> bytes:
         """The fields as tiffdump prints them, under a name."""

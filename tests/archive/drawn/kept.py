@@ -81,6 +81,9 @@ class KeptOnes:
             self.keep(path, _of_deleted(run, path))
         for path in set(run.before.rows) - set(run.after.rows) - deleted:
             kept = _of_gone(run, path)
+            if kept is not None and kept.data in run.model.teller.pieces:
+                # A salvaged copy is none.
+                continue
             if kept is not None:
                 self.keep(path, kept)
             elif path in self.sure or _may_be_kept(run, path):

@@ -17,8 +17,8 @@ ENDINGS = (b".tif", b".tiff")
 GOOD, FAULTY, NOT_READ = 0, 1, 3
 # The first version of tables that knows files of other kinds.
 WITH_OTHERS = 3
-# The first one that keeps sums of its rows.
-WITH_SUMS = 4
+# The first one that keeps sums of its rows; and the first one that knows salvaged copies.
+WITH_SUMS, WITH_SALVAGED = 4, 5
 # The row of a fax that has other bytes than before, and the same size and time.
 TURNED = Verdict(FAULTY, "Changed")
 
@@ -52,6 +52,7 @@ class Words(NamedTuple):
     adopt: bool = False
     faults_ok: bool = False
     whole: bool = False
+    salvage: bool = False
 
 
 class Fax(NamedTuple):
@@ -70,7 +71,8 @@ class Fax(NamedTuple):
 
 class Row(NamedTuple):
     """A row of a table, which run wrote it, and whether it is of a fax that stays though it was to be deleted, so that
-    the table knows of no copy."""
+    the table knows of no copy; whether its copy is a salvaged one, or nothing can be salvaged; and how many bad and
+    lost rows it has."""
 
     size: int
     mtime: float
@@ -78,6 +80,8 @@ class Row(NamedTuple):
     lacks: Optional[str]
     run: int
     stays: bool = False
+    salvaged: Optional[int] = None
+    counts: Tuple[Optional[int], Optional[int]] = (None, None)
 
 
 class Original(NamedTuple):
@@ -173,12 +177,14 @@ def answers(table: str, query: str) -> List[Tuple[Any, ...]]:
 
 def rows_of(table: str) -> Table:
     """What a table says."""
+    later = "salvaged, bad_rows, lost_rows" if version_of(table) >= WITH_SALVAGED else "NULL, NULL, NULL"
     found = answers(table, "SELECT CAST(path AS BLOB), size, mtime, status, fault, fault_page, fault_row, fault_tag, "
-                         "lacks, run, status = 0 AND path NOT IN (SELECT path FROM copies) "
+                         f"lacks, run, status = 0 AND path NOT IN (SELECT path FROM copies), {later} "
                          "FROM faxes JOIN times USING (path)")
     last = answers(table, "SELECT number, words, ended IS NOT NULL AND NOT unread, ended IS NOT NULL FROM runs "
                         "ORDER BY number DESC LIMIT 1")
-    rows = {row[0]: Row(row[1], row[2], Verdict(*row[3:8]), row[8], row[9], bool(row[10])) for row in found}
+    rows = {row[0]: Row(row[1], row[2], Verdict(*row[3:8]), row[8], row[9], bool(row[10]), row[11],
+                        (row[12], row[13])) for row in found}
     if version_of(table) < WITH_OTHERS:
         rows = {path: row._replace(verdict=_of_other_kinds(row.verdict)) for path, row in rows.items()}
     return rows, (last[0][0], last[0][1], bool(last[0][2]), bool(last[0][3])) if last else None
@@ -270,6 +276,18 @@ class Model:
             found[name + b".fields"] = self.teller.fields(fax.data, os.path.join(world.tree, path))
         return found
 
+    def salvaged(self, job: Job, path: bytes, fax: Fax) -> Dict[bytes, bytes]:
+        """What is to stand below the target for a faulty fax that is salvaged, by its name; nothing of some."""
+        if not job.to or fax.data is None or self.teller.verdict(fax.data).status != FAULTY:
+            return {}
+        data = self.teller.salvaged(fax.data, job.to)
+        return {job.copy_of(path): data} if data is not None else {}
+
+    def is_whole(self, job: Job, name: bytes) -> bool:
+        """Whether a table has written a copy that is no salvaged one into a place."""
+        owned = self.owned(job, name)
+        return owned is not None and owned not in self.teller.pieces
+
     def may_replace(self, job: Job, name: bytes, there: Optional[Entry], wanted: bytes) -> bool:
         """Whether what stands in a place may be replaced."""
         if there is None:
@@ -297,34 +315,41 @@ class Model:
         if row is None or (row.size, row.mtime) != (fax.size, fax.mtime):
             return True
         least = {None: 3, "unread": 3, "faulty": 1, "copies": 0, "all": 0}[words.again]
-        asked = row.verdict.status >= least and not (words.again == "copies" and row.verdict.status in (FAULTY, OTHER))
-        if asked and row.run != number:
+        spared = words.again == "copies" and row.verdict.status in (FAULTY, OTHER)
+        spared = spared and not (words.salvage and row.salvaged)
+        if row.verdict.status >= least and not spared and row.run != number:
             return True
+        name = job.copy_of(path) if job.to else b""
+        if words.salvage and row.verdict.status == FAULTY and row.salvaged != 0:
+            return not self.stands(job, name, target) and row.run != number
         if not job.to or row.verdict.status != GOOD:
             return False
-        name = job.copy_of(path)
         return not self.stands(job, name, target) or (
             job.fields and not self.stands(job, name + b".fields", target))
 
-    def outcome(self, world: World, job: Job, path: bytes, fax: Fax, target: Dict[bytes, Entry],
+    def outcome(self, world: World, job: Job, words: Words, path: bytes, fax: Fax, target: Dict[bytes, Entry],
                 turned: bool) -> Verdict:
-        """What comes of a fax that is done; of one whose bits have turned nothing is written."""
+        """What comes of a fax that is done; of one whose bits have turned nothing is written. Of a faulty one something
+        is if it is salvaged, and no whole copy stands there."""
         if fax.data is None:
             return Verdict(NOT_READ, "Open")
         verdict = self.teller.verdict(fax.data)
         if turned and not verdict.status:
             return TURNED
-        if verdict.status or not job.to:
+        wanted = self.wanted(world, job, path, fax) if job.to and not verdict.status else dict[bytes, bytes]()
+        if words.salvage and not turned and not self.is_whole(job, job.copy_of(path)):
+            wanted.update(self.salvaged(job, path, fax))
+        if not wanted:
             return verdict
         folder = os.path.dirname(job.copy_of(path))
         while folder:
             if folder in target and target[folder].kind != "folder":
                 return Verdict(NOT_READ, "Write")
             folder = os.path.dirname(folder)
-        for name, wanted in self.wanted(world, job, path, fax).items():
+        for name, data in wanted.items():
             there = target.get(name)
-            same = there is not None and there.kind == "file" and there.data == wanted
-            if not same and not self.may_replace(job, name, there, wanted):
+            same = there is not None and there.kind == "file" and there.data == data
+            if not same and not self.may_replace(job, name, there, data):
                 return Verdict(NOT_READ, "Exists")
         return verdict
 

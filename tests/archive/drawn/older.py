@@ -38,6 +38,10 @@ def make(episode: Episode, job: Job) -> None:
         _forget(ones)
     for copy in list(_unmark(episode, numbers)):
         model.only.pop(copy, None)
+    # 1.5.2 wrote no salvaged copies: from now on it is not known whose they are.
+    left = {copy for copy, entry in snapshot(episode.world.target).items() if entry.data in model.teller.pieces}
+    for table in (it.table for it in episode.jobs[1:]):
+        model.maybe.setdefault(table, set()).update(left)
     if job.folds:
         # No mark has a name by now.
         for table in (it.table for it in episode.jobs[1:]):
@@ -49,6 +53,7 @@ def _make(table: str) -> None:
         paths = base.execute(f"SELECT path FROM faxes WHERE {_NOT_YET}").fetchall()
         for name in ("faxes", "times", "copies"):
             base.executemany(f"DELETE FROM {name} WHERE path = ?", paths)
+        base.execute("DELETE FROM copies WHERE path IN (SELECT path FROM faxes WHERE salvaged = 1)")
         base.execute("UPDATE deleted SET deleted = 1 WHERE deleted = 0")
         base.commit()
     make_older(table)
@@ -73,7 +78,10 @@ def _unmark(episode: Episode, numbers: set[str]) -> Iterator[bytes]:
         for attribute, words in list(_marks(path)):
             if words[0] not in numbers:
                 continue
-            if attribute == ONLY:
+            if words[-1] == "salvaged":
+                os.removexattr(path, attribute)
+                yield name
+            elif attribute == ONLY:
                 os.removexattr(path, attribute)
                 yield name
             else:

@@ -199,7 +199,7 @@ class Episode:
         delete = rng.random() < (0.3 if self.kind != GOING else 0.9)
         give_up = tuple(it for it in LACKING if delete and (self.kind == GOING or rng.random() < 0.3))
         return Words(again, gone, delete, give_up, rng.random() < 0.1, not delete and rng.random() < 0.1,
-                     delete and rng.random() < 0.3)
+                     delete and rng.random() < 0.3, self.kind != GOING and rng.random() < 0.4)
 
     def given(self, job: Job, words: Words) -> List[str]:
         """The words of the command line."""
@@ -208,7 +208,8 @@ class Episode:
                  "--table", f"{os.fsdecode(self.world.tables)}/{job.table}"]
         given += ["--to", *job.to] if job.to else []
         flags = {"--follow": job.follow, "--fields": job.fields, "--gone": words.gone, "--delete": words.delete,
-                 "--adopt": words.adopt, "--faults-ok": words.faults_ok, "--all-or-nothing": words.whole}
+                 "--adopt": words.adopt, "--faults-ok": words.faults_ok, "--all-or-nothing": words.whole,
+                 "--salvage": words.salvage}
         given += [flag for flag, said in flags.items() if said]
         given += ["--again", words.again] if words.again else []
         given += ["--give-up", ",".join(words.give_up)] if words.give_up else []
