@@ -22,7 +22,7 @@ KINDS = {
     "tiles": (["-t", "-w", "16", "-l", "16", "-c", "g4"], "a picture in tiles"),
     "big": (["-8"], "a BigTIFF file, or none in TIFF"),
 }  # fmt: skip
-# The columns that versions before 1.16 did not keep, and those of a table of version 1.5.
+# The columns that versions before 1.15 did not keep, and those of a table of version 1.5.
 NEW_COLUMNS = ("bad_rows", "lost_rows", "salvaged")
 OLD = ("path, size, mtime, status, pages, rows, width, x, y, codings, notes, fault, fault_page, fault_row, fault_tag, why, "
        "lacks, seconds")

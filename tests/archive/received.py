@@ -124,7 +124,7 @@ def sums(room: Room, rows: Rows) -> None:
 
 
 def make_late(table: str) -> None:
-    """Makes a table as versions 1.12 to 1.15 wrote it, with their sums."""
+    """Makes a table as versions 1.12 to 1.14 wrote it, with their sums."""
     with contextlib.closing(sqlite3.connect(table)) as base:
         for name in NEW_COLUMNS:
             base.execute(f"ALTER TABLE faxes DROP COLUMN {name}")
@@ -160,7 +160,7 @@ def make_middle(table: str) -> None:
         base.commit()
 
 
-EARLIER = {"1.5": make_older, "1.11": make_middle, "1.15": make_late}
+EARLIER = {"1.5": make_older, "1.11": make_middle, "1.14": make_late}
 
 
 def earlier(room: Room, *_given: object) -> None:
@@ -200,13 +200,13 @@ def not_known(room: Room, version: str, table: str) -> None:
     got = [summary[key] for key in ("bad_rows", "bad_rows_faxes", "bad_rows_unknown", "lost_rows")]
     room.claim(f"{version}: what is not known", got, [None, 0, listed, None])
     status, out, error = room.run("table", table, "--mended")
-    said = f"{listed} faxes were read by a version before 1.16" in error and "--again all" in error
+    said = f"{listed} faxes were read by a version before 1.15" in error and "--again all" in error
     room.claim(f"{version}: --mended: {error}", (status, out, said), (3, b"", True))
 
 
 def turned(room: Room) -> None:
-    """A row of 1.15 that is not as it was written is not brought up to date; nor is a table of 1.16 that says that it
-    is one of 1.15."""
+    """A row of 1.14 that is not as it was written is not brought up to date; nor is a table of 1.15 that says that it
+    is one of 1.14."""
     shutil.copy(room("earlier/new.sqlite"), room("earlier/turned.sqlite"))
     make_late(room("earlier/turned.sqlite"))
     with contextlib.closing(sqlite3.connect(room("earlier/turned.sqlite"))) as base:

@@ -15,13 +15,13 @@ from . import _files as files
 from ._fax import FAULTY, OTHER, Found
 
 COLUMNS = Found._fields
-# Those that versions before 1.16 did not keep. In their rows they are empty, which says that this is not known.
+# Those that versions before 1.15 did not keep. In their rows they are empty, which says that this is not known.
 _NEW_COLUMNS = ("bad_rows", "lost_rows", "salvaged")
 # A commit waits for the disk: at most one a second.
 _COMMIT = 1.0
 # How long a commit waits for a reader before the run goes on, and how long all else waits for a writer.
 _WAIT, _LONG = 0.25, 60.0
-# Of versions before 1.6, 1.12 and 1.16, whose tables are read as they stand, and brought up to date where they are
+# Of versions before 1.6, 1.12 and 1.15, whose tables are read as they stand, and brought up to date where they are
 # written.
 _BEFORE, _BEFORE_DIGESTS, _BEFORE_RECEIVED, _FORMAT = 2, 3, 4, 5
 _WITH_SUMS = (_BEFORE_RECEIVED, _FORMAT)
@@ -81,7 +81,7 @@ CREATE TEMP TABLE compared (
 CREATE INDEX temp.compared_depths ON compared (depth DESC);
 """
 _EMPTY = {name: f"NULL AS {name}" for name in _NEW_COLUMNS}
-# The rows of a table before 1.16; and before 1.6, where what is no fax that is read here was called faulty.
+# The rows of a table before 1.15; and before 1.6, where what is no fax that is read here was called faulty.
 _LATE_ROWS = ", ".join(_EMPTY.get(name, name) for name in COLUMNS)
 _OF_OTHERS = f"status = {FAULTY} AND fault IN ('Unsupported', 'Magic', 'ByteOrder')"
 _OLD_ROWS = ", ".join({

@@ -80,7 +80,7 @@ def _do_table(words: argparse.Namespace) -> int:
         out.detach()
         unknown = table.row_counts()["bad_rows_unknown"] if words.mended else 0
         if unknown:
-            say(f"{words.name}: {unknown} faxes were read by a version before 1.16, which did not count bad rows: "
+            say(f"{words.name}: {unknown} faxes were read by a version before 1.15, which did not count bad rows: "
                 "--again all of check or convert counts them")
         if last is None or not last.finished():
             say(f"{words.name}: {state_of(table)}")
