@@ -1,7 +1,7 @@
 // Made by tools/build-web of tools/plain-rust: change that. The library in WebAssembly.
 // version 1.15.0
 // rustc 1.96.0
-// sources c9d047177e5d989d1938489e77b9c4ae41ccd24c9b10bc7c2c133bc22834740c
+// sources 6be2e5cb40c5db1c45aa072c41919c497b402c03f3df0f633c8d15b5a52c8d9e
 // module 014346ddcb92fbd1e901f8f2ac0417ed490355d5e6ad81f36d0a6fc6777aa6ec
 "use strict";
 const FAXPAGES_WASM = `
