@@ -17,7 +17,8 @@ FOLDERS = ["archive", "bin", "client", "config", "dev", "docq", "doneq", "etc", 
            "status", "tmp"]
 # The end of each wait, in seconds; a call takes 25 to 40.
 PATIENCE = 120
-# HylaFAX keeps a page as it came in, whatever its rows.
+# How HylaFAX is set up. With 0 good and consecutive bad rows it keeps a page as it came in, whatever its rows; with 95 and 5,
+# as it comes, it puts rows in place of bad ones.
 SETTINGS = """CountryCode: 1
 AreaCode: 1
 FAXNumber: +1.1.1
@@ -40,8 +41,8 @@ ModemDTRDropDelay: 0
 Class1Cmd: AT+FCLASS=1
 Class1ECMSupport: no
 Class1TCFRecvHack: no
-PercentGoodLines: 0
-MaxConsecutiveBadLines: 0
+PercentGoodLines: {good}
+MaxConsecutiveBadLines: {bad}
 """
 
 
@@ -53,17 +54,18 @@ class Noise(NamedTuple):
 
 
 class Call(NamedTuple):
-    """A call: its name, the two programs, its noise, and its seed."""
+    """A call: its name, the two programs, its noise, its seed, and whether its receiver mends a page: spandsp always does."""
 
     sender: str
     receiver: str
     noise: Noise
     seed: int
+    mends: bool = False
 
     @property
     def name(self) -> str:
         line = f"noise {self.noise.white} dB, {self.noise.hits} hits a minute" if any(self.noise) else "a clean line"
-        return f"{self.sender} to {self.receiver} over {line}"
+        return f"{self.sender} to {self.receiver}{' that mends' if self.mends else ''} over {line}"
 
     def needs_hylafax(self) -> bool:
         return HYLAFAX in (self.sender, self.receiver)
@@ -131,7 +133,7 @@ def start_hylafax(room: Room) -> None:
         (spool / name).mkdir(parents=True)
     (spool / "dev" / "line").symlink_to(os.readlink(room.terminal("receiver")))
     config = "config." + f"{SPOOL}/dev/line".replace("/", "_")
-    (spool / "etc" / config).write_text(SETTINGS.format(spool=SPOOL))
+    (spool / "etc" / config).write_text(SETTINGS.format(spool=SPOOL, good=95 if room.call.mends else 0, bad=5 if room.call.mends else 0))
     hook = spool / "bin" / "faxrcvd"
     hook.write_text('#!/bin/sh\nprintf "%s\\n" "$1" >>received\n')
     hook.chmod(0o755)

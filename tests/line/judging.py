@@ -68,3 +68,17 @@ def faults(told: Told, sent: Dict[str, int]) -> List[str]:
 def counted(told: Told, sent: Dict[str, int]) -> Count:
     found = sum(row in sent for _, row in told.found)
     return Count(len(sent), found, sum(stretch.rows for stretch in told.lost))
+
+
+class Mended(NamedTuple):
+    """Of a page whose receiver put rows in place of bad ones: how many rows are none that was sent, or come twice, and
+    how many sent ones it lacks."""
+
+    wrong: int
+    missing: int
+
+
+def mended(told: Told, sent: Dict[str, int]) -> Mended:
+    numbers = [sent.get(row) for place, row in told.found if place >= OWN_ROWS and row != pages.WHITE]
+    there = set(numbers) - {None}
+    return Mended(len(numbers) - len(there), len(sent) - len(there))

@@ -4,7 +4,9 @@ and folders of their own. Each call of sbatch has a folder of its own."""
 from __future__ import annotations
 
 import contextlib
+import csv
 import getpass
+import io
 import os
 import shutil
 import signal
@@ -167,7 +169,9 @@ class Cluster:
     def table(self, place: str) -> list[str]:
         """The lines of the table there, but for the seconds and the folder."""
         printed = self.give(place, "faxpages-archive table faxes.sqlite --csv")[1]
-        return [line.rpartition(",")[0].removeprefix(f"{place}/") for line in printed.splitlines()[1:]]
+        rows = csv.DictReader(io.StringIO(printed))
+        return [",".join(value for name, value in row.items() if name != "seconds").removeprefix(f"{place}/")
+                for row in rows]
 
 
 def free_port() -> int:

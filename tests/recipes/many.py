@@ -2,6 +2,8 @@
 
 from __future__ import annotations
 
+import csv
+import io
 import os
 from typing import Iterator
 
@@ -109,10 +111,11 @@ def given_array(commands: str, array: str) -> str:
     return commands.replace("sbatch ", f"sbatch --array={array} ")
 
 
-def archive_rows(room: Room) -> list[bytes]:
-    """The lines of the table but for the seconds."""
-    printed = room.call("faxpages-archive", "table", "faxes.sqlite", "--csv")[1]
-    return [line.rpartition(b",")[0] for line in printed.splitlines()[1:]]
+def archive_rows(room: Room) -> list[list[str]]:
+    """The rows of the table but for the seconds."""
+    printed = room.call("faxpages-archive", "table", "faxes.sqlite", "--csv")[1].decode(errors="surrogateescape")
+    rows = csv.DictReader(io.StringIO(printed, newline=""))
+    return [[value for name, value in row.items() if name != "seconds"] for row in rows]
 
 
 TESTS: Tests = {
