@@ -37,6 +37,10 @@ raster, grey in the image, and listed:
         print("rows", stretch.first, "to", stretch.last, "are lost:", stretch.name)
     left.image().save("page.png")
 
+All pages so, in a new file, as by `faxpages salvage -o`:
+
+    mended = fax.salvaged_file("mmr")
+
 The bad rows that the receiver of a page counted are in fields of the page, if it wrote them:
 
     if page.received.bad_rows:
