@@ -10,7 +10,7 @@ from typing import TYPE_CHECKING, Iterator, Tuple
 
 from tests.archive.drawn.hurting import COPY, ONLY, numbers_in
 from tests.archive.drawn.kept import KeptOnes
-from tests.archive.drawn.model import WITH_OTHERS, Job, version_of
+from tests.archive.drawn.model import WITH_OTHERS, Job, about_to_go, version_of
 from tests.archive.drawn.world import snapshot
 from tests.archive.kinds import make_older
 
@@ -24,7 +24,7 @@ _NOT_YET = "status = 0 AND why IS NOT NULL OR fault = 'NoMark'"
 def make(episode: Episode, job: Job) -> None:
     """Makes a table, its backup and its copies older."""
     name = os.path.join(os.fsdecode(episode.world.tables), job.table)
-    numbers = numbers_in(name) or set()
+    numbers, about = numbers_in(name) or set(), about_to_go(name)
     for table in (name, name + "-backup"):
         if os.path.exists(table) and version_of(table) >= WITH_OTHERS:
             _make(table)
@@ -36,6 +36,9 @@ def make(episode: Episode, job: Job) -> None:
             model.left.setdefault(job.table, {})[path] = job.copy_of(path), its.data
     for ones in filter(None, (kept, episode.backed.get(job.table))):
         _forget(ones)
+        # What an earlier run was about to delete passes for deleted there, also if it stays.
+        for path in about - set(ones.sure):
+            ones.doubt(path)
     for copy in list(_unmark(episode, numbers)):
         model.only.pop(copy, None)
     # 1.5.2 wrote no salvaged copies: from now on it is not known whose they are.
