@@ -158,6 +158,10 @@ static void convert(size_t len, uint32_t number) {
         add_bytes(out, status == FAXPAGES_DONE ? converted.len : 0);
         add_end(status, &converted.fault);
         status = faxpages_salvage_convert(file, len, &options, out, OUT, &converted);
+        if (status == FAXPAGES_NO_ROOM) {
+            size_t room = room_of(converted.len);
+            status = faxpages_salvage_convert(file, len, &options, out, room, &converted);
+        }
         add_bytes(out, status == FAXPAGES_DONE ? converted.len : 0);
         add_end(status, &converted.fault);
     }

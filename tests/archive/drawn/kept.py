@@ -88,8 +88,10 @@ class KeptOnes:
                 self.keep(path, kept)
             elif path in self.sure or _may_be_kept(run, path):
                 self.doubt(path)
-        # One that an earlier run was about to delete, and did not, and that is gone now, passes for deleted.
-        for path in run.before.about_to_go - set(run.before.seen.faxes) - set(self.sure):
+        # One that an earlier run was about to delete, and did not, and that is gone now, passes for deleted; and so does
+        # one that this run was about to delete, if it was killed.
+        late = run.before.about_to_go - set(run.before.seen.faxes)
+        for path in (late | run.after.about_to_go) - set(self.sure):
             self.doubt(path)
         calm = not run.troubled and run.beside is None
         for path in set(self.sure) - deleted:
