@@ -167,8 +167,8 @@ class Library {
         return this.written(this.calls.faxpages_convert, target);
     }
 
-    /** Writes the pages of a damaged file as a new one: lost rows are white, and counted in the fields 326 to 328. The status is
-     * END where no page has a form.
+    /** Writes the pages of a damaged file as a new one: lost rows are white, and counted in the fields 326 to 328. The
+     * status is END where no page has a form.
      * @param {number} target */
     salvagedFile(target) {
         return this.written(this.calls.faxpages_salvage_convert, target);

@@ -107,8 +107,8 @@ class Saving {
      * `faxpages salvage -o` writes it, with the bad rows of each page in the fields 326 to 328.
      * @param {number[]} pages @param {number[]} turns of each, in quarters @param {number} coding */
     async tiff(pages, turns, coding) {
-        const isUpright = turns.every((turned) => !turned);
-        const { at, length } = (isUpright && this.wholeFile(pages, coding)) || await this.pageByPage(pages, turns, coding);
+        const whole = turns.some((turned) => turned) ? null : this.wholeFile(pages, coding);
+        const { at, length } = whole ?? await this.pageByPage(pages, turns, coding);
         this.made.file = at;
         this.made.length = length;
         await this.compareFile(pages, turns);
