@@ -97,19 +97,13 @@ func Convert(file []byte, options Options) ([]byte, error) {
 		return nil, err
 	}
 	bytes, length := bytesOf(file)
-	for room := len(file) + 1024; ; {
-		var converted C.struct_faxpages_converted
-		out := make([]byte, room)
-		status := C.faxpages_convert(bytes, length, &given, (*C.uint8_t)(&out[0]), C.size_t(room), &converted)
-		if status == C.FAXPAGES_NO_ROOM {
-			room = int(converted.len)
-			continue
-		}
-		if err := errorOf(status, &converted.fault); err != nil {
-			return nil, err
-		}
-		return out[:converted.len], nil
+	made, status, fault := written(len(file), func(out *C.uint8_t, room C.size_t, converted *converted) C.uint32_t {
+		return C.faxpages_convert(bytes, length, &given, out, room, converted)
+	})
+	if err := errorOf(status, &fault); err != nil {
+		return nil, err
 	}
+	return made, nil
 }
 
 // SalvagedFile writes a damaged file as a new one: the rows that are found, and white ones in place of lost rows, which
@@ -120,17 +114,27 @@ func (f Fax) SalvagedFile(options Options) ([]byte, error) {
 		return nil, err
 	}
 	bytes, length := bytesOf(f.file)
-	for room := len(f.file) + 1024; ; {
-		var converted C.struct_faxpages_converted
+	made, status, fault := written(len(f.file), func(out *C.uint8_t, room C.size_t, converted *converted) C.uint32_t {
+		return C.faxpages_salvage_convert(bytes, length, &given, out, room, converted)
+	})
+	if status != C.FAXPAGES_DONE {
+		return nil, errorOf(status, &fault)
+	}
+	return made, nil
+}
+
+type converted = C.struct_faxpages_converted
+
+// The bytes that a call writes where it is given room for them, its status and its fault; size is that of its input.
+func written(size int, write func(*C.uint8_t, C.size_t, *converted) C.uint32_t) (
+	[]byte, C.uint32_t, C.struct_faxpages_fault) {
+	for room := size + 1024; ; {
+		var told converted
 		out := make([]byte, room)
-		status := C.faxpages_salvage_convert(bytes, length, &given, (*C.uint8_t)(&out[0]), C.size_t(room), &converted)
-		switch {
-		case status == C.FAXPAGES_NO_ROOM:
-			room = int(converted.len)
-		case status == C.FAXPAGES_DONE:
-			return out[:converted.len], nil
-		default:
-			return nil, errorOf(status, &converted.fault)
+		status := write((*C.uint8_t)(&out[0]), C.size_t(room), &told)
+		if status != C.FAXPAGES_NO_ROOM {
+			return out[:told.len], status, told.fault
 		}
+		room = int(told.len)
 	}
 }
